@@ -1,0 +1,10 @@
+use Rattle.words.proofs.BitLaws.{weight-fits}
+use borrow.Author.Needs.{needs}
+use Rattle.words.proofs.bits.weight.Statement.{statement}
+use Rattle.words.proofs.bits.weight.Tie as tie
+
+returns : tie.Need-returns
+returns c = weight-fits _ (c .pre)
+
+pub weight-spec : {M : Type 1} → statement M
+weight-spec = tie.close (tie.spec (search needs) (search needs) returns)

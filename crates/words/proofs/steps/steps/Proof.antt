@@ -1,0 +1,18 @@
+use Prim.Native.Nat.{_%_}
+use Rattle.words.proofs.StepLaws.{stride-fits, steps-wrapped}
+use native.Mathlib.Omega.{arith}
+use borrow.Author.Needs.{needs}
+use Rattle.words.proofs.steps.steps.Statement.{statement}
+use Rattle.words.proofs.steps.steps.Tie as tie
+
+mul-result : tie.Need-mul-result
+mul-result c = rw (c .when-long .ensures) (omega (arith, stride-fits (c .before .args .down) (c .before .args .n % 65536)))
+
+add-result : tie.Need-add-result
+add-result c = rw (c .when-long .ensures) (omega (arith, stride-fits (c .before .args .down) (c .before .args .n % 65536)))
+
+returns : tie.Need-returns
+returns c = rw (c .when-long .ensures) (steps-wrapped _ _ _)
+
+pub steps-spec : {M : Type 1} → statement M
+steps-spec = tie.close (tie.spec (search needs) mul-result add-result (search needs) returns)
