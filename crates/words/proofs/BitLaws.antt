@@ -1,12 +1,11 @@
 -- Laws of the bits of a byte.
 -- Assumes nothing.
 use Prim.Native.Nat.{ℕ, zero, suc, _+_, _-_, _*_, _/_, _%_, _^_, _≤_, _<_}
-use mathlib.Core.Path.{_≡_, refl, sym, ap, _∙_}
+use mathlib.Core.Path.{_≡_, refl, ap}
 use mathlib.Core.Bool.{Bool, true, false}
 use native.Mathlib.Omega.{arith}
 use native.Mathlib.Nat.{div-eq-of-lt}
 use lib.Pow.{pow-mono}
-use borrow.Author.Tests.{lt-ltb}
 use Rattle.words.specs.Choice.{when}
 use Rattle.words.specs.Bits.{bit, withBit}
 

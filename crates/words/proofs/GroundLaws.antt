@@ -3,10 +3,8 @@
 use Prim.Native.Nat.{ℕ, _<_}
 use mathlib.Core.Path.{_≡_, refl}
 use mathlib.Core.Bool.{Bool, true, false}
-use mathlib.Core.List.{List, [], _∷_}
 use native.Mathlib.Omega.{arith}
 use Rattle.words.specs.Choice.{when}
-use Rattle.words.specs.Grounds.{Ground, _if_, first}
 
 -- a refusal that did not come: its ground failed, and none came after it
 pub record Passed (t : Bool) (rest : ℕ) : Type 0 where

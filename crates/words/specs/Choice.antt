@@ -7,6 +7,6 @@ module _ {A : Type 0} where
   when true a b = a
   when false a b = b
 
-infixl 35 _and_
+infixr 35 _and_
 unfoldable pub _and_ : Bool → Bool → Bool
 a and b = a && b

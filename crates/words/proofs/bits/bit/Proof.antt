@@ -1,6 +1,6 @@
-use Rattle.words.proofs.BitLaws.{bit-above}
 use mathlib.Core.Path.{sym}
 use borrow.Author.Needs.{needs}
+use Rattle.words.proofs.BitLaws.{bit-above}
 use Rattle.words.proofs.bits.bit.Statement.{statement}
 use Rattle.words.proofs.bits.bit.Tie as tie
 

@@ -1,5 +1,5 @@
-use Rattle.words.proofs.BitLaws.{weight-fits}
 use borrow.Author.Needs.{needs}
+use Rattle.words.proofs.BitLaws.{weight-fits}
 use Rattle.words.proofs.bits.weight.Statement.{statement}
 use Rattle.words.proofs.bits.weight.Tie as tie
 

@@ -1,11 +1,11 @@
 use Prim.Native.Nat.{_^_}
-use Rattle.words.proofs.BitLaws.{room}
-use Rattle.words.proofs.ChoiceLaws.{when-le}
+use native.Mathlib.Omega.{arith}
+use borrow.Author.Tests.{le-ltb, lt-ltb}
+use borrow.Author.Needs.{needs}
 use Rattle.words.specs.Bits.{withBit}
 use Rattle.words.specs.Choice.{when}
-use borrow.Author.Tests.{le-ltb, lt-ltb}
-use native.Mathlib.Omega.{arith}
-use borrow.Author.Needs.{needs}
+use Rattle.words.proofs.BitLaws.{room}
+use Rattle.words.proofs.ChoiceLaws.{when-le}
 use Rattle.words.proofs.bits.with_bit.Statement.{statement}
 use Rattle.words.proofs.bits.with_bit.Tie as tie
 

@@ -1,6 +1,6 @@
+use borrow.Author.Needs.{needs}
 use Rattle.words.specs.Bytes.{byteOf}
 use Rattle.words.specs.Choice.{when}
-use borrow.Author.Needs.{needs}
 use Rattle.words.proofs.bytes.byte_of.Statement.{statement}
 use Rattle.words.proofs.bytes.byte_of.Tie as tie
 

@@ -1,6 +1,6 @@
+use borrow.Author.Needs.{needs}
 use Rattle.words.specs.Bytes.{withByte}
 use Rattle.words.specs.Choice.{when}
-use borrow.Author.Needs.{needs}
 use Rattle.words.proofs.bytes.with_byte.Statement.{statement}
 use Rattle.words.proofs.bytes.with_byte.Tie as tie
 

@@ -1,7 +1,7 @@
-use Rattle.words.proofs.StepLaws.{stride-fits}
-use Rattle.words.specs.Steps.{step, stride}
 use native.Mathlib.Omega.{arith}
 use borrow.Author.Needs.{needs}
+use Rattle.words.specs.Steps.{step, stride}
+use Rattle.words.proofs.StepLaws.{stride-fits}
 use Rattle.words.proofs.steps.step.Statement.{statement}
 use Rattle.words.proofs.steps.step.Tie as tie
 

@@ -1,7 +1,7 @@
 use Prim.Native.Nat.{_%_}
-use Rattle.words.proofs.StepLaws.{stride-fits, steps-wrapped}
 use native.Mathlib.Omega.{arith}
 use borrow.Author.Needs.{needs}
+use Rattle.words.proofs.StepLaws.{stride-fits, steps-wrapped}
 use Rattle.words.proofs.steps.steps.Statement.{statement}
 use Rattle.words.proofs.steps.steps.Tie as tie
 

@@ -1,0 +1,26 @@
+use mathlib.Core.Path.{sym}
+use borrow.Author.Tests.{eq-eqb, ne-eqb}
+use borrow.Author.Needs.{needs}
+use Rattle.words.specs.Choice.{when}
+use Rattle.am9517.specs.Answers.{outcome}
+use Rattle.am9517.proofs.Controller.grant.Statement.{statement}
+use Rattle.am9517.proofs.Controller.grant.Tie as tie
+
+returns : tie.Need-returns
+unfolding outcome when
+returns c = simp (c .refused .ensures, sym (c .before .before .grant-refusal .ensures), ne-eqb _ _ (c .before .if1 .taken))
+
+returns-2 : tie.Need-returns-2
+unfolding outcome when
+returns-2 c = simp (sym (c .before .before .grant-refusal .ensures), eq-eqb _ _ (c .before .if1 .left), c .granted .ensures, c .before .before .before .picked .ensures)
+
+pub grant-spec : {M : Type 1} → statement M
+grant-spec =
+    tie.close
+    (tie.spec
+    (search needs)
+    (search needs)
+    (search needs)
+    returns
+    (search needs)
+    returns-2)

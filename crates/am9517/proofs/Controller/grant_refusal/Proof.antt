@@ -1,0 +1,13 @@
+use borrow.Author.Needs.{needs}
+use Rattle.words.specs.Grounds.{first}
+use Rattle.am9517.specs.Refusals.{refusal}
+use Rattle.am9517.proofs.Controller.grant_refusal.Statement.{statement}
+use Rattle.am9517.proofs.Controller.grant_refusal.Tie as tie
+
+returns : tie.Need-returns
+unfolding refusal first
+returns c = cc
+
+pub grant-refusal-spec : {M : Type 1} → statement M
+grant-refusal-spec =
+    tie.close (tie.spec (search needs) (search needs) (search needs) (search needs) returns)

@@ -1,0 +1,3 @@
+-- Laws about the definitions of specs/, for the proofs here and in the crates above.
+pub mod StateLaws
+pub mod RefusalLaws

@@ -1,0 +1,38 @@
+-- What each operation hands back, for all inputs. "Each returns its number only, and state, memory and buffers stay."
+use Prim.Native.Nat.{ℕ}
+use lib.Dec.{eqb}
+use Rattle.words.specs.Choice.{when}
+use Rattle.am9517.specs.State.{put, cleared, Field, Pins}
+use Rattle.am9517.specs.Serving.{picked, granted}
+use Rattle.am9517.specs.Registers.{written, value, afterRead}
+use Rattle.am9517.specs.Refusals.{refusal, writeGrounds, readGrounds, pinsGrounds, resetGrounds, grantGrounds}
+use Rattle.am9517.specs.declared.Controller.{Controller}
+use Rattle.am9517.specs.declared.Answer.{Answer}
+use Rattle.am9517.specs.declared.Answer.the-variants.{Done, Value, Refused}
+use Rattle.am9517.specs.declared.Outcome.{Outcome}
+
+-- the refusal number of each answer, 0 for none, and the byte read or channel granted
+abbrev pub numberOf : Answer → ℕ
+numberOf Done = 0
+numberOf (Value v) = 0
+numberOf (Refused n) = n
+
+-- refused by n, the state as it was; or, with n zero, the next state and what is told of it
+unfoldable pub outcome : ℕ → Controller → Controller → Answer → Outcome
+outcome n was next told =
+    record { controller = when (eqb n 0) next was; answer = when (eqb n 0) told (Refused n) }
+
+abbrev pub writeOf : Controller → ℕ → ℕ → Outcome
+writeOf s r b = outcome (refusal (writeGrounds s r b)) s (written s r b) Done
+
+abbrev pub readOf : Controller → ℕ → Outcome
+readOf s r = outcome (refusal (readGrounds s r)) s (afterRead s r) (Value (value s r))
+
+abbrev pub pinsOf : Controller → ℕ → Outcome
+pinsOf s p = outcome (refusal (pinsGrounds s p)) s (put s Pins p) Done
+
+abbrev pub resetOf : Controller → Outcome
+resetOf s = outcome (refusal (resetGrounds s)) s (cleared s) Done
+
+abbrev pub grantOf : Controller → Outcome
+grantOf s = outcome (refusal (grantGrounds s)) s (granted s (picked s)) (Value (picked s))

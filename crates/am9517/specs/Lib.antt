@@ -1,0 +1,8 @@
+-- One Am9517A, from document 01 in its order: the state, refusals, registers, who may be served, and the ranges of a state.
+pub mod State
+pub mod Refusals
+pub mod Modes
+pub mod Registers
+pub mod Serving
+pub mod Ranges
+pub mod Answers

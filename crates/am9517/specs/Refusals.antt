@@ -1,0 +1,37 @@
+-- Document 01, "Refusal numbers": the grounds of each operation, in its order.
+use Prim.Native.Nat.{ℕ}
+use mathlib.Core.Bool.{Bool, not, _&&_}
+use mathlib.Core.List.{List, [], _∷_}
+use lib.Dec.{ltb, leb, eqb}
+use Rattle.words.specs.Grounds.{Ground, _if_, first}
+use Rattle.am9517.specs.Ranges.{valid, modeRefused}
+use Rattle.am9517.specs.Serving.{picked}
+use Rattle.am9517.specs.declared.Controller.{Controller}
+
+-- the number of the first ground that holds; 0 where none does
+unfoldable pub refusal : List (Ground ℕ) → ℕ
+refusal gs = first gs 0
+
+-- a service is open
+abbrev pub busy : Controller → Bool
+busy s = not (eqb (s .«in_service») 0)
+
+-- "read of 9, A, B, C, E, F"
+abbrev pub unreadable : ℕ → Bool
+unreadable r = leb 9 r && not (eqb r 13)
+
+abbrev pub writeGrounds : Controller → ℕ → ℕ → List (Ground ℕ)
+writeGrounds s r b =
+    1 if not (valid s) ∷ 2 if ltb 15 r ∷ 3 if busy s ∷ 4 if eqb r 14 ∷ 5 if (eqb r 11 && modeRefused b) ∷ []
+
+abbrev pub readGrounds : Controller → ℕ → List (Ground ℕ)
+readGrounds s r = 1 if not (valid s) ∷ 2 if ltb 15 r ∷ 3 if busy s ∷ 4 if unreadable r ∷ []
+
+abbrev pub pinsGrounds : Controller → ℕ → List (Ground ℕ)
+pinsGrounds s p = 1 if not (valid s) ∷ 2 if ltb 15 p ∷ []
+
+abbrev pub resetGrounds : Controller → List (Ground ℕ)
+resetGrounds s = 1 if not (valid s) ∷ []
+
+abbrev pub grantGrounds : Controller → List (Ground ℕ)
+grantGrounds s = 1 if not (valid s) ∷ 3 if busy s ∷ 6 if eqb (picked s) 4 ∷ []

@@ -1,0 +1,55 @@
+-- Document 01, "Who may be served".
+use Prim.Native.Nat.{ℕ, _+_, _*_, _%_}
+use mathlib.Core.Bool.{Bool, not, _&&_, _||_}
+use mathlib.Core.List.{[], _∷_}
+use lib.Dec.{eqb}
+use Rattle.words.specs.Choice.{when}
+use Rattle.words.specs.Grounds.{_if_, first}
+use Rattle.words.specs.Bits.{bit}
+use Rattle.am9517.specs.State.{channel, put, Field, Lowest, InService, Serving, LatchFull, Latch}
+use Rattle.am9517.specs.Modes.{disabled, rotating, serviceOf}
+use Rattle.am9517.specs.declared.Controller.{Controller}
+
+-- "A line is active when its pin differs from command bit 6."
+unfoldable pub active : Controller → ℕ → Bool
+active s n = not (eqb (bit (s .pins) n) (bit (s .command) 6))
+
+-- "its request bit is set and its mode is block (elsewhere the bit is kept and not counted)"
+unfoldable pub counted : Controller → ℕ → Bool
+counted s n = eqb (bit (s .request) n) 1 && eqb (serviceOf (channel s n .mode)) 2
+
+-- "A channel requests when its line is active, or its request bit is set and its mode is block."
+unfoldable pub requests : Controller → ℕ → Bool
+requests s n = active s n || counted s n
+
+-- "It is entitled when command bit 2 is 0 and either its line is active and its mask bit 0, or its request bit counts."
+unfoldable pub entitled : Controller → ℕ → Bool
+entitled s n = not (disabled s) && (active s n && eqb (bit (s .mask) n) 0 || counted s n)
+
+-- four bits that say for which channels f holds
+unfoldable pub setOf : (ℕ → Bool) → ℕ
+setOf f = when (f 0) 1 0 + when (f 1) 2 0 + when (f 2) 4 0 + when (f 3) 8 0
+
+-- "Bits 0-3 the TC bits; bits 4-7 the requesting channels, masked or not."
+unfoldable pub status : Controller → ℕ
+status s = s .tc + 16 * setOf (requests s)
+
+-- "fixed order 0, 1, 2, 3, or, rotating, from the one after the lowest, going round": who is asked k-th, from 0
+abbrev pub turn : Controller → ℕ → ℕ
+turn s k = (when (rotating s) (s .lowest + 1) 0 + k) % 4
+
+-- "A grant takes the first entitled channel"; 4 where there is none
+unfoldable pub picked : Controller → ℕ
+picked s =
+    first (
+    turn s 0 if entitled s (turn s 0)
+    ∷ turn s 1 if entitled s (turn s 1)
+    ∷ turn s 2 if entitled s (turn s 2)
+    ∷ turn s 3 if entitled s (turn s 3)
+    ∷ []) 4
+
+-- "Under rotation the granted channel becomes lowest at the grant; a fixed grant leaves the lowest as it is. The latch is emptied."
+unfoldable pub granted : Controller → ℕ → Controller
+granted s n =
+    let t = put s Lowest (when (rotating s) n (s .lowest)) in
+    put (put (put (put t InService 1) Serving n) LatchFull 0) Latch 0

@@ -1,0 +1,96 @@
+-- Document 01, "The controller's state".
+-- Field, tag, field and make are the only lines that list every field beside the channels: a new field is one line in each.
+use Prim.Native.Nat.{ℕ}
+use mathlib.Core.List.{List, [], _∷_}
+use mathlib.Core.Bool.{Bool, cond}
+use lib.ListN.{getD, set}
+use lib.Dec.{eqb}
+use Rattle.am9517.specs.declared.Channel.{Channel}
+use Rattle.am9517.specs.declared.Controller.{Controller}
+
+pub data Field : Type 0 where
+  Command Tc Request Mask Temporary FlipFlop Pins Lowest InService Serving LatchFull Latch : Field
+
+-- tells two fields apart
+abbrev pub tag : Field → ℕ
+tag Command = 0
+tag Tc = 1
+tag Request = 2
+tag Mask = 3
+tag Temporary = 4
+tag FlipFlop = 5
+tag Pins = 6
+tag Lowest = 7
+tag InService = 8
+tag Serving = 9
+tag LatchFull = 10
+tag Latch = 11
+
+-- the field's value
+abbrev pub field : Controller → Field → ℕ
+field s Command = s .command
+field s Tc = s .tc
+field s Request = s .request
+field s Mask = s .mask
+field s Temporary = s .temporary
+field s FlipFlop = s .«flip_flop»
+field s Pins = s .pins
+field s Lowest = s .lowest
+field s InService = s .«in_service»
+field s Serving = s .serving
+field s LatchFull = s .«latch_full»
+field s Latch = s .latch
+
+-- the state of these channels and fields
+abbrev pub make : List Channel → (Field → ℕ) → Controller
+make cs f =
+    record {
+      channels = cs;
+      command = f Command;
+      tc = f Tc;
+      request = f Request;
+      mask = f Mask;
+      temporary = f Temporary;
+      «flip_flop» = f FlipFlop;
+      pins = f Pins;
+      lowest = f Lowest;
+      «in_service» = f InService;
+      serving = f Serving;
+      «latch_full» = f LatchFull;
+      latch = f Latch;
+    }
+
+-- fields f with g as v
+abbrev pub but : (Field → ℕ) → Field → ℕ → Field → ℕ
+but f g v h = cond (eqb (tag g) (tag h)) v (f h)
+
+-- the state with the field g as v
+abbrev pub put : Controller → Field → ℕ → Controller
+put s g v = make (s .channels) (but (field s) g v)
+
+-- a channel of zeros
+abbrev pub blank : Channel
+blank = record { «base_address» = 0; address = 0; «base_count» = 0; count = 0; mode = 0 }
+
+-- channel n
+abbrev pub channel : Controller → ℕ → Channel
+channel s n = getD (s .channels) n blank
+
+-- the state with channel n as c
+abbrev pub withChannel : Controller → ℕ → Channel → Controller
+withChannel s n c = make (set (s .channels) n c) (field s)
+
+-- "A fresh state is all zero but for the mask (15) and lowest channel (3)."
+abbrev pub fresh : Controller
+fresh = make (blank ∷ blank ∷ blank ∷ blank ∷ []) (but (but (λ (f : Field). 0) Mask 15) Lowest 3)
+
+-- "However a service ends, the serving channel, the latch and its full mark become zero."
+abbrev pub ended : Controller → Controller
+ended s = put (put (put (put s InService 0) Serving 0) LatchFull 0) Latch 0
+
+-- "Reset clears command, TC bits, request bits, temporary byte and flip-flop, sets all mask bits and ends any service;
+-- lowest becomes 3; addresses, counts, modes and pins stay."
+abbrev pub cleared : Controller → Controller
+cleared s =
+    let t = put (put (put (put (put s Command 0) Tc 0) Request 0) Temporary 0) FlipFlop 0 in
+    put (ended (put t Mask 15)) Lowest 3

@@ -1,0 +1,154 @@
+// One Am9517A: its state, and the operations on it. Each takes the state by value and hands the next one back.
+ghost use mathlib.Core.Path.{_≡_};
+ghost use Rattle.am9517.specs.State.{fresh};
+ghost use Rattle.am9517.specs.Answers.{writeOf, readOf, pinsOf, resetOf, grantOf};
+
+mod ranges;
+mod refusals;
+mod registers;
+mod serving;
+mod state;
+
+pub struct Channel {
+    pub base_address: u16,
+    pub address: u16,
+    pub base_count: u16,
+    pub count: u16,
+    pub mode: u8,
+}
+
+// Every field is a byte, so that a state that breaks a range can be given, and is refused by 1.
+pub struct Controller {
+    pub channels: [Channel; 4],
+    pub command: u8,
+    pub tc: u8,
+    pub request: u8,
+    pub mask: u8,
+    pub temporary: u8,
+    pub flip_flop: u8,
+    pub pins: u8,
+    pub lowest: u8,
+    pub in_service: u8,
+    pub serving: u8,
+    pub latch_full: u8,
+    pub latch: u8,
+}
+
+// What an operation says: done; done, with the byte read or the channel granted; or the number of its refusal.
+pub enum Answer {
+    Done,
+    Value(u8),
+    Refused(u8),
+}
+
+// The next state, which is the old one where the answer is a refusal.
+pub struct Outcome {
+    pub controller: Controller,
+    pub answer: Answer,
+}
+
+impl Controller {
+    pub fn fresh() -> Controller
+        ensures { λ r. ⌜ r ≡ fresh ⌝ }
+    {
+        let blank = Channel {
+            base_address: 0,
+            address: 0,
+            base_count: 0,
+            count: 0,
+            mode: 0,
+        };
+        Controller {
+            channels: [blank, blank, blank, blank],
+            command: 0,
+            tc: 0,
+            request: 0,
+            mask: 15,
+            temporary: 0,
+            flip_flop: 0,
+            pins: 0,
+            lowest: 3,
+            in_service: 0,
+            serving: 0,
+            latch_full: 0,
+            latch: 0,
+        }
+    }
+
+    // A byte is written to a register.
+    pub fn write(self, reg: u32, byte: u8) -> Outcome
+        ensures { λ r. ⌜ r ≡ writeOf self reg byte ⌝ }
+    {
+        let no = self.write_refusal(reg, byte);
+        if no != 0 {
+            return self.refused(no);
+        }
+        let next = self.written(reg, byte);
+        Outcome {
+            controller: next,
+            answer: Answer::Done,
+        }
+    }
+
+    // A register is read.
+    pub fn read(self, reg: u32) -> Outcome
+        ensures { λ r. ⌜ r ≡ readOf self reg ⌝ }
+    {
+        let no = self.read_refusal(reg);
+        if no != 0 {
+            return self.refused(no);
+        }
+        let value = self.value(reg);
+        let next = self.after_read(reg);
+        Outcome {
+            controller: next,
+            answer: Answer::Value(value),
+        }
+    }
+
+    // The four DREQ pins take these levels.
+    pub fn pins(self, levels: u32) -> Outcome
+        ensures { λ r. ⌜ r ≡ pinsOf self levels ⌝ }
+    {
+        let no = self.pins_refusal(levels);
+        if no != 0 {
+            return self.refused(no);
+        }
+        let mut next = self;
+        next.pins = (levels % 256) as u8;
+        Outcome {
+            controller: next,
+            answer: Answer::Done,
+        }
+    }
+
+    pub fn reset(self) -> Outcome
+        ensures { λ r. ⌜ r ≡ resetOf self ⌝ }
+    {
+        let no = self.reset_refusal();
+        if no != 0 {
+            return self.refused(no);
+        }
+        let next = self.cleared();
+        Outcome {
+            controller: next,
+            answer: Answer::Done,
+        }
+    }
+
+    // The first entitled channel's service begins.
+    pub fn grant(self) -> Outcome
+        ensures { λ r. ⌜ r ≡ grantOf self ⌝ }
+    {
+        let n = self.picked();
+        let no = self.grant_refusal(n);
+        if no != 0 {
+            return self.refused(no);
+        }
+        let next = self.granted(n);
+        Outcome {
+            controller: next,
+            answer: Answer::Value(n),
+        }
+    }
+}

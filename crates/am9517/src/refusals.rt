@@ -1,0 +1,51 @@
+// The number of the first ground that holds, 0 where none does.
+use crate::Controller;
+use crate::ranges::mode_refused;
+use words::choice::when;
+ghost use mathlib.Core.Path.{_≡_};
+ghost use Rattle.am9517.specs.Refusals.{refusal, writeGrounds, readGrounds, pinsGrounds, resetGrounds, grantGrounds};
+ghost use Rattle.am9517.specs.Serving.{picked};
+
+impl Controller {
+    pub(crate) fn write_refusal(self, reg: u32, byte: u8) -> u8
+        ensures { λ r. ⌜ r ≡ refusal (writeGrounds self reg byte) ⌝ }
+    {
+        let no = when((reg == 11) & mode_refused(byte), 5, 0);
+        let no = when(reg == 14, 4, no);
+        let no = when(self.in_service != 0, 3, no);
+        let no = when(15 < reg, 2, no);
+        when(!self.valid(), 1, no)
+    }
+
+    pub(crate) fn read_refusal(self, reg: u32) -> u8
+        ensures { λ r. ⌜ r ≡ refusal (readGrounds self reg) ⌝ }
+    {
+        let no = when((9 <= reg) & (reg != 13), 4, 0);
+        let no = when(self.in_service != 0, 3, no);
+        let no = when(15 < reg, 2, no);
+        when(!self.valid(), 1, no)
+    }
+
+    pub(crate) fn pins_refusal(self, levels: u32) -> u8
+        ensures { λ r. ⌜ r ≡ refusal (pinsGrounds self levels) ⌝ }
+    {
+        let no = when(15 < levels, 2, 0);
+        when(!self.valid(), 1, no)
+    }
+
+    pub(crate) fn reset_refusal(self) -> u8
+        ensures { λ r. ⌜ r ≡ refusal (resetGrounds self) ⌝ }
+    {
+        when(!self.valid(), 1, 0)
+    }
+
+    // n is the channel picked.
+    pub(crate) fn grant_refusal(self, n: u8) -> u8
+        requires { ⌜ n ≡ picked self ⌝ }
+        ensures { λ r. ⌜ r ≡ refusal (grantGrounds self) ⌝ }
+    {
+        let no = when(n == 4, 6, 0);
+        let no = when(self.in_service != 0, 3, no);
+        when(!self.valid(), 1, no)
+    }
+}

@@ -1,0 +1,130 @@
+// What an accepted register write stores, and what a read gives and leaves.
+use crate::Channel;
+use crate::Controller;
+use words::bits::bit;
+use words::bits::with_bit;
+use words::bytes::byte_of;
+use words::bytes::with_byte;
+use words::choice::when;
+use words::choice::when_word;
+ghost use mathlib.Core.Path.{_≡_};
+ghost use Prim.Native.Nat.{_<_, _≤_};
+ghost use Rattle.am9517.specs.Registers.{turnedOver, withAddressByte, withCountByte, portWritten, portRead, modeWritten, written, value, afterRead};
+
+impl Channel {
+    fn with_address_byte(self, high: bool, b: u8) -> Channel
+        ensures { λ r. ⌜ r ≡ withAddressByte self high b ⌝ }
+    {
+        let mut next = self;
+        next.base_address = with_byte(self.base_address, high, b);
+        next.address = with_byte(self.address, high, b);
+        next
+    }
+
+    fn with_count_byte(self, high: bool, b: u8) -> Channel
+        ensures { λ r. ⌜ r ≡ withCountByte self high b ⌝ }
+    {
+        let mut next = self;
+        next.base_count = with_byte(self.base_count, high, b);
+        next.count = with_byte(self.count, high, b);
+        next
+    }
+}
+
+impl Controller {
+    fn turned_over(self) -> Controller
+        ensures { λ r. ⌜ r ≡ turnedOver self ⌝ }
+    {
+        let mut next = self;
+        next.flip_flop = when(self.flip_flop == 1, 0, 1);
+        next
+    }
+
+    // Registers 0 to 7.
+    fn port_written(self, reg: u32, byte: u8) -> Controller
+        requires { ⌜ reg < 8 ⌝ }
+        ensures { λ r. ⌜ r ≡ portWritten self reg byte ⌝ }
+    {
+        let n = (reg / 2) as usize;
+        let high = self.flip_flop == 1;
+        let was = self.channels[n];
+        let mut next = self.turned_over();
+        if reg % 2 == 0 {
+            let now = was.with_address_byte(high, byte);
+            next.channels[n] = now;
+        } else {
+            let now = was.with_count_byte(high, byte);
+            next.channels[n] = now;
+        }
+        next
+    }
+
+    fn port_read(self, reg: u32) -> u8
+        requires { ⌜ reg < 8 ⌝ }
+        ensures { λ r. ⌜ r ≡ portRead self reg ⌝ }
+    {
+        let n = (reg / 2) as usize;
+        let c = self.channels[n];
+        let word = when_word(reg % 2 == 0, c.address, c.count);
+        byte_of(word, self.flip_flop == 1)
+    }
+
+    fn mode_written(self, byte: u8) -> Controller
+        ensures { λ r. ⌜ r ≡ modeWritten self byte ⌝ }
+    {
+        let n = (byte % 4) as usize;
+        let mut c = self.channels[n];
+        c.mode = byte - byte % 4;
+        let mut next = self;
+        next.channels[n] = c;
+        next
+    }
+
+    pub(crate) fn written(self, reg: u32, byte: u8) -> Controller
+        ensures { λ r. ⌜ r ≡ written self reg byte ⌝ }
+    {
+        if reg < 8 {
+            return self.port_written(reg, byte);
+        }
+        let n = (byte % 4) as usize;
+        let set = byte / 4 % 2 == 1;
+        let mut next = self;
+        match reg {
+            8 => next.command = byte,
+            9 => next.request = with_bit(self.request, n, set),
+            10 => next.mask = with_bit(self.mask, n, set),
+            11 => next = self.mode_written(byte),
+            12 => next.flip_flop = 0,
+            13 => next = self.cleared(),
+            15 => next.mask = byte % 16,
+            _ => next = self,
+        }
+        next
+    }
+
+    pub(crate) fn value(self, reg: u32) -> u8
+        requires { ⌜ self .tc ≤ 15 ⌝ }
+        ensures { λ r. ⌜ r ≡ value self reg ⌝ }
+    {
+        if reg < 8 {
+            return self.port_read(reg);
+        }
+        if reg == 8 {
+            return self.status();
+        }
+        self.temporary
+    }
+
+    pub(crate) fn after_read(self, reg: u32) -> Controller
+        ensures { λ r. ⌜ r ≡ afterRead self reg ⌝ }
+    {
+        if reg < 8 {
+            return self.turned_over();
+        }
+        let mut next = self;
+        if reg == 8 {
+            next.tc = 0;
+        }
+        next
+    }
+}

@@ -1,0 +1,118 @@
+// Who may be served, and the grant.
+use crate::Controller;
+use words::bits::bit;
+use words::choice::when;
+use words::choice::when_size;
+ghost use mathlib.Core.Path.{_≡_};
+ghost use Prim.Native.Nat.{_+_, _<_, _≤_};
+ghost use Rattle.am9517.specs.Modes.{rotating};
+ghost use Rattle.am9517.specs.Serving.{active, counted, requests, entitled, setOf, status, turn, picked, granted};
+ghost use Rattle.words.specs.Choice.{when};
+
+// Four bits: the weight of each that is set.
+fn four(first: bool, second: bool, third: bool, fourth: bool) -> u8
+    ensures { λ r. ⌜ (r ≡ when first 1 0 + when second 2 0 + when third 4 0 + when fourth 8 0) × (r ≤ 15) ⌝ }
+{
+    when(first, 1, 0) + when(second, 2, 0) + when(third, 4, 0) + when(fourth, 8, 0)
+}
+
+impl Controller {
+    // The line of channel n is active.
+    pub fn active(self, n: usize) -> bool
+        ensures { λ r. ⌜ r ≡ active self n ⌝ }
+    {
+        bit(self.pins, n) != self.command / 64 % 2
+    }
+
+    // The request bit of channel n counts.
+    fn counted(self, n: usize) -> bool
+        requires { ⌜ n < 4 ⌝ }
+        ensures { λ r. ⌜ r ≡ counted self n ⌝ }
+    {
+        let mode = self.channels[n].mode;
+        (bit(self.request, n) == 1) & (mode / 64 == 2)
+    }
+
+    fn requests(self, n: usize) -> bool
+        requires { ⌜ n < 4 ⌝ }
+        ensures { λ r. ⌜ r ≡ requests self n ⌝ }
+    {
+        self.active(n) | self.counted(n)
+    }
+
+    fn entitled(self, n: usize) -> bool
+        requires { ⌜ n < 4 ⌝ }
+        ensures { λ r. ⌜ r ≡ entitled self n ⌝ }
+    {
+        let line = self.active(n) & (bit(self.mask, n) == 0);
+        (self.command / 4 % 2 != 1) & (line | self.counted(n))
+    }
+
+    // The entitled channels, as four bits.
+    pub fn entitled_set(self) -> u8
+        ensures { λ r. ⌜ r ≡ setOf (entitled self) ⌝ }
+    {
+        four(
+            self.entitled(0),
+            self.entitled(1),
+            self.entitled(2),
+            self.entitled(3),
+        )
+    }
+
+    // The status byte: the TC bits, and above them the requesting channels.
+    pub(crate) fn status(self) -> u8
+        requires { ⌜ self .tc ≤ 15 ⌝ }
+        ensures { λ r. ⌜ r ≡ status self ⌝ }
+    {
+        let set = four(
+            self.requests(0),
+            self.requests(1),
+            self.requests(2),
+            self.requests(3),
+        );
+        self.tc + 16 * set
+    }
+
+    fn rotating(self) -> bool
+        ensures { λ r. ⌜ r ≡ rotating self ⌝ }
+    {
+        self.command / 16 % 2 == 1
+    }
+
+    // The channel that is asked k-th.
+    fn turn(self, k: usize) -> u8
+        requires { ⌜ k < 4 ⌝ }
+        ensures { λ r. ⌜ r ≡ turn self k ⌝ }
+    {
+        let from = when_size(self.rotating(), self.lowest as usize + 1, 0);
+        ((from + k) % 4) as u8
+    }
+
+    // The first entitled channel, or 4.
+    pub fn picked(self) -> u8
+        ensures { λ r. ⌜ r ≡ picked self ⌝ }
+    {
+        let first = self.turn(0);
+        let second = self.turn(1);
+        let third = self.turn(2);
+        let fourth = self.turn(3);
+        let n = when(self.entitled(fourth as usize), fourth, 4);
+        let n = when(self.entitled(third as usize), third, n);
+        let n = when(self.entitled(second as usize), second, n);
+        when(self.entitled(first as usize), first, n)
+    }
+
+    // The service of channel n begins.
+    pub(crate) fn granted(self, n: u8) -> Controller
+        ensures { λ r. ⌜ r ≡ granted self n ⌝ }
+    {
+        let mut next = self;
+        next.lowest = when(self.rotating(), n, self.lowest);
+        next.in_service = 1;
+        next.serving = n;
+        next.latch_full = 0;
+        next.latch = 0;
+        next
+    }
+}
