@@ -12,9 +12,13 @@ use Rattle.am9517.specs.declared.Controller.{Controller}
 unfoldable pub refusal : List (Ground ℕ) → ℕ
 refusal gs = first gs 0
 
--- a service is open
+-- no service is open
+abbrev pub idle : Controller → Bool
+idle s = eqb (s .«in_service») 0
+
+-- "during a service"
 abbrev pub busy : Controller → Bool
-busy s = not (eqb (s .«in_service») 0)
+busy s = not (idle s)
 
 -- "read of 9, A, B, C, E, F"
 abbrev pub unreadable : ℕ → Bool

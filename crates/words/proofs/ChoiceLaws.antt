@@ -54,3 +54,16 @@ both-hold e h = rw (e, h)
 -- what is given or not is at most what may be given
 pub when-le : (t : Bool) (a : ℕ) → when t a 0 ≤ a
 when-le t a = when-both (λ (x : ℕ). x ≤ a) t (omega arith) (omega arith)
+
+-- no test both holds and fails
+pub never : {A : Type 0} → true ≡ false → A
+never e = let z : _≡_ {A = ℕ} 0 1 = cc in absurd (omega arith)
+
+-- a test that can't hold fails
+pub not-true : (t : Bool) → (t ≡ true → ⊥) → t ≡ false
+not-true true h = absurd (h refl)
+not-true false h = refl
+
+pub not-false : (t : Bool) → (t ≡ false → ⊥) → t ≡ true
+not-false true h = refl
+not-false false h = absurd (h refl)

@@ -4,6 +4,7 @@ use Prim.Native.Nat.{ℕ, suc, _+_, _-_, _*_, _/_, _%_, _^_, _≤_, _<_}
 use mathlib.Core.Path.{_≡_, sym, ap, _∙_}
 use mathlib.Core.Bool.{Bool, true, false}
 use native.Mathlib.Omega.{arith}
+use native.Mathlib.Numerals.{add-one}
 use native.Mathlib.Nat.{mod-eq-of-lt, mod-self, mod-lt, add-mod-right, mod-add-mod, add-assoc, add-mul, suc-mul, mul-assoc, div-add-mod, add-mul-mod-self-left}
 use lib.Pow.{pow-pos}
 use Rattle.words.specs.Choice.{when}
@@ -65,11 +66,11 @@ module _ (w : ℕ) where
         mod-add-mod (x + j * s) (2 ^ w) (k * s) ∙ ap (λ (y : ℕ). y % 2 ^ w) e
 
     -- j steps and one more
-    pub steps-more : (j : ℕ) → step w down (steps w down x j) ≡ steps w down x (suc j)
+    pub steps-next : (j : ℕ) → step w down (steps w down x j) ≡ steps w down x (j + 1)
     unfolding steps step
-    steps-more j =
+    steps-next j =
         let s = stride w down in
-        let e : x + j * s + s ≡ x + suc j * s = add-assoc x (j * s) s ∙ ap (λ (y : ℕ). x + y) (sym (suc-mul j s)) in
+        let e : x + j * s + s ≡ x + (j + 1) * s = add-assoc x (j * s) s ∙ ap (λ (y : ℕ). x + y) (sym (suc-mul j s) ∙ ap (λ (k : ℕ). k * s) (sym (add-one j))) in
         mod-add-mod (x + j * s) (2 ^ w) s ∙ ap (λ (y : ℕ). y % 2 ^ w) e
 
 -- a stride of 16 bits, and many of them, fit a machine word

@@ -1,0 +1,212 @@
+-- Many transfers at once of memory-to-memory: one transfer more is one step of the rules, and the run is one trip.
+-- Assumes nothing.
+use Prim.Native.Nat.{ℕ, zero, suc, _+_, _-_, _*_, _≤_, _<_}
+use mathlib.Core.Path.{_≡_, refl, sym, ap, _∙_}
+use mathlib.Core.Bool.{Bool, true, false, _||_}
+use mathlib.Core.List.{List}
+use mathlib.Core.Logic.{_≢_}
+use native.Mathlib.Omega.{arith}
+use native.Mathlib.Numerals.{add-one}
+use lib.Dec.{eqb}
+use lib.ListN.{getD, set, length-set}
+use lib.Seq.{getD-set-same, getD-set-other, set-set, set-comm}
+use borrow.Author.Tests.{eq-eqb, ne-eqb, eqb-true, eqb-false}
+use Rattle.words.specs.Choice.{when}
+use Rattle.words.specs.Grounds.{first}
+use Rattle.words.specs.Steps.{step}
+use Rattle.words.specs.Bits.{withBit}
+use Rattle.am9517.specs.State.{channel, withChannel, make, but, field, put, ended, blank, Request, Temporary}
+use Rattle.am9517.specs.Modes.{addressHold, decrement}
+use Rattle.am9517.specs.declared.Channel.{Channel}
+use Rattle.am9517.specs.declared.Controller.{Controller}
+use Rattle.service.specs.declared.Reason.the-variants.{Ended, Limit}
+use Rattle.service.specs.World.{World, startOf, withController, stop, copies}
+use Rattle.service.specs.Stops.{stops}
+use Rattle.service.specs.Ends.{runner, reachesTc, finished, over, single}
+use Rattle.service.specs.Transfer.{at, stepped}
+use Rattle.service.specs.Copy.{copied}
+use Rattle.service.specs.Run.{transferred, runOf}
+use Rattle.service.specs.Closed.{along, onward, carried, sourceAlong, copiedOn, copiedBytes, copiedAll, reachedCopying, untilEnd}
+use Rattle.words.proofs.ChoiceLaws.{when-both, when-each, when-hit, never, not-false}
+use Rattle.service.proofs.AddressLaws.{held-none, held-next}
+use Rattle.service.proofs.SpreadLaws.{carried-more}
+use Rattle.service.proofs.BoundLaws.{Until, until}
+use Rattle.service.proofs.RunLaws.{Free, Gives, run-stop, transferred-copied}
+use Rattle.service.proofs.WayLaws.{Way, way-on, way-end, neither-left, neither-right}
+use Rattle.service.proofs.TravelLaws.{inside-of, count-left, stepped-onward, stepped-first, along-none, onward-count}
+
+-- two places set again
+two-again : (l : List Channel) (x y x' y' : Channel) → set (set (set (set l 0 x) 1 y) 0 x') 1 y' ≡ set (set l 0 x') 1 y'
+two-again l x y x' y' =
+    let apart : _≢_ {A = ℕ} 1 0 = λ e. eqb-false 1 0 refl e in
+    ap (λ (k : List Channel). set k 1 y') (set-comm (set l 0 x) 1 0 y x' apart ∙ ap (λ (k : List Channel). set k 1 y) (set-set l 0 x x'))
+    ∙ set-set (set l 0 x') 1 y y'
+
+-- the transfer of a world whose channels 0 and 1 are these
+abbrev copiedWith : World → Channel → Channel → World
+copiedWith w from to =
+    let c = w .controller in
+    let byte = getD (w .memory) (from .address) 0 in
+    record {
+      controller = withChannel (withChannel (put c Temporary byte) 0 (at from (when (addressHold c) (from .address) (step 16 (decrement (from .mode)) (from .address))) (from .count))) 1 (stepped to);
+      memory = set (w .memory) (to .address) byte;
+      room = w .room;
+      transfers = w .transfers + 1;
+      used = w .used;
+      written = w .written;
+      states = w .states + 8;
+    }
+
+copied-by : (w : World) (from to : Channel) → channel (w .controller) 0 ≡ from → channel (w .controller) 1 ≡ to → copied w ≡ copiedWith w from to
+unfolding copied
+copied-by w from to e g = ap (λ (x : Channel). copiedWith w x (channel (w .controller) 1)) e ∙ ap (copiedWith w from) g
+
+module _ (c : Controller) (m r : List ℕ) where
+  abbrev from : Channel
+  from = channel c 0
+
+  abbrev to : Channel
+  to = channel c 1
+
+  -- channel 0 after n transfers
+  abbrev sent : ℕ → Channel
+  sent n = at from (sourceAlong c n) (from .count)
+
+  -- both channels after n transfers
+  abbrev both : ℕ → List Channel
+  both n = set (set (c .channels) 0 (sent n)) 1 (onward to n)
+
+  -- the byte that the transfer after n moves
+  abbrev moving : ℕ → ℕ
+  moving n = getD (copiedBytes c m n) (sourceAlong c n) 0
+
+  abbrev shape : List Channel → ℕ → List ℕ → ℕ → ℕ → World
+  shape chs byte bytes n states =
+      record { controller = make chs (but (field c) Temporary byte); memory = bytes; room = r; transfers = n; used = 0; written = 0; states = states }
+
+  sent-there : (n byte : ℕ) → (to .count ≡ 0 → ⊥) → channel (copiedOn c byte n) 0 ≡ sent n
+  sent-there n byte nz =
+      let apart : _≢_ {A = ℕ} 0 1 = λ e. eqb-false 0 1 refl e in
+      let inside = inside-of (c .channels) 1 nz in
+      getD-set-other (set (c .channels) 0 (sent n)) 1 0 (onward to n) blank apart ∙ getD-set-same (c .channels) 0 (sent n) blank (omega arith)
+
+  pub got-there : (n byte : ℕ) → (to .count ≡ 0 → ⊥) → channel (copiedOn c byte n) 1 ≡ onward to n
+  got-there n byte nz = getD-set-same (set (c .channels) 0 (sent n)) 1 (onward to n) blank (simp length-set (inside-of (c .channels) 1 nz))
+
+  source-next : (n : ℕ) → from .address < 65536 → when (addressHold c) (sourceAlong c n) (step 16 (decrement (from .mode)) (sourceAlong c n)) ≡ sourceAlong c (n + 1)
+  unfolding sourceAlong along
+  source-next n below = held-next (decrement (from .mode)) (from .address) below (addressHold c) n _ refl
+
+  source-none : from .address < 65536 → sourceAlong c 0 ≡ from .address
+  unfolding sourceAlong along
+  source-none below = sym (held-none (decrement (from .mode)) (from .address) below (addressHold c))
+
+  one-more : (j : ℕ) → (to .count ≡ 0 → ⊥) → from .address < 65536 → copied (copiedAll c m r (j + 1)) ≡ copiedAll c m r (j + 1 + 1)
+  unfolding copiedAll onward
+  one-more j nz below =
+      let n = j + 1 in
+      let byte = moving (n - 1) in
+      let back : j + 1 + 1 - 1 ≡ j + 1 = omega arith in
+      let states : (j + 1) * 8 + 8 ≡ (j + 1 + 1) * 8 = omega arith in
+      let x : Channel = at from (when (addressHold c) (sourceAlong c n) (step 16 (decrement (from .mode)) (sourceAlong c n))) (from .count) in
+      let chs : set (set (set (set (c .channels) 0 (sent n)) 1 (onward to n)) 0 x) 1 (stepped (onward to n)) ≡ both (n + 1) =
+      two-again (c .channels) (sent n) (onward to n) x (stepped (onward to n))
+      ∙ ap (λ (a : ℕ). set (set (c .channels) 0 (at from a (from .count))) 1 (stepped (onward to n))) (source-next n below)
+      ∙ ap (λ (y : Channel). set (set (c .channels) 0 (sent (n + 1))) 1 y) (stepped-onward to n) in
+      let bytes : set (copiedBytes c m n) (along to n) (moving n) ≡ copiedBytes c m (n + 1) = carried-more (along to) (sourceAlong c) m n (along to n) (sourceAlong c n) refl refl (copiedBytes c m n) refl in
+      copied-by (copiedAll c m r n) (sent n) (onward to n) (sent-there n byte nz) (got-there n byte nz)
+      ∙ ap (λ (l : List Channel). shape l (moving n) (set (copiedBytes c m n) (along to n) (moving n)) (n + 1) (n * 8 + 8)) chs
+      ∙ ap (λ (l : List ℕ). shape (both (n + 1)) (moving n) l (n + 1) (n * 8 + 8)) bytes
+      ∙ ap (λ (k : ℕ). shape (both (n + 1)) (moving k) (copiedBytes c m (n + 1)) (n + 1) (n * 8 + 8)) (sym back)
+      ∙ ap (λ (k : ℕ). shape (both (n + 1)) (moving (n + 1 - 1)) (copiedBytes c m (n + 1)) (n + 1) k) states
+
+  first-copy : from .address < 65536 → to .address < 65536 → copied (startOf c m r) ≡ copiedAll c m r 1
+  unfolding copiedAll carried
+  first-copy below goal =
+      let start : when (addressHold c) (from .address) (step 16 (decrement (from .mode)) (from .address)) ≡ sourceAlong c 1 = rw (← source-none below) (source-next 0 below) in
+      let chs : set (set (c .channels) 0 (at from (when (addressHold c) (from .address) (step 16 (decrement (from .mode)) (from .address))) (from .count))) 1 (stepped to) ≡ both 1 =
+      ap (λ (a : ℕ). set (set (c .channels) 0 (at from a (from .count))) 1 (stepped to)) start ∙ ap (λ (y : Channel). set (set (c .channels) 0 (sent 1)) 1 y) (stepped-first to) in
+      let byte : getD m (from .address) 0 ≡ moving 0 = ap (λ (a : ℕ). getD m a 0) (sym (source-none below)) in
+      let place : to .address ≡ along to 0 = sym (along-none to goal) in
+      copied-by (startOf c m r) from to refl refl
+      ∙ ap (λ (l : List Channel). shape l (getD m (from .address) 0) (set m (to .address) (getD m (from .address) 0)) 1 8) chs
+      ∙ ap (λ (b : ℕ). shape (both 1) b (set m (to .address) b) 1 8) byte
+      ∙ ap (λ (a : ℕ). shape (both 1) (moving 0) (set m a (moving 0)) 1 8) place
+
+  pub reached-none : reachedCopying c m r 0 ≡ startOf c m r
+  unfolding reachedCopying when
+  reached-none = refl
+
+  pub copying-some : (n : ℕ) → 0 < n → reachedCopying c m r n ≡ copiedAll c m r n
+  unfolding reachedCopying when
+  copying-some n h = let nz : n ≡ 0 → ⊥ = λ e. omega arith in simp (ne-eqb n 0 nz)
+
+  abbrev here : ℕ → World
+  here n = reachedCopying c m r n
+
+  copies-after : (n : ℕ) → copies (reachedCopying c m r n .controller) ≡ copies c
+  unfolding reachedCopying copiedAll copies
+  copies-after n = when-both (λ (w : World). copies (w .controller) ≡ copies c) (eqb n 0) refl refl
+
+  transfers-after : (n : ℕ) → reachedCopying c m r n .transfers ≡ n
+  unfolding reachedCopying copiedAll
+  transfers-after n = when-each (λ (w : World). w .transfers ≡ n) (eqb n 0) (λ e. sym (eqb-true _ _ e)) (λ e. refl)
+
+  module _ (ic : copies c ≡ true) (below : from .address < 65536) (goal : to .address < 65536) (small : to .count < 65536) where
+    there : (n : ℕ) → (to .count ≡ 0 → ⊥) → n ≤ to .count → channel (copiedAll c m r n .controller) 1 .count ≡ to .count - n
+    unfolding copiedAll
+    there n nz h = ap (λ (x : Channel). x .count) (got-there n (moving (n - 1)) nz) ∙ onward-count to n ∙ count-left (to .count) n h small
+
+    count-after : (n : ℕ) → n ≤ to .count → channel (here n .controller) 1 .count ≡ to .count - n
+    count-after zero h = rw reached-none (omega arith)
+    count-after (suc j) h = rw (copying-some (suc j) (omega arith)) (there (suc j) (λ e. omega arith) h)
+
+    reached-more : (n : ℕ) → n ≤ to .count → (d : List ℕ) → transferred (reachedCopying c m r n) d ≡ reachedCopying c m r (n + 1)
+    reached-more n h d = transferred-copied 0 d (reachedCopying c m r n) (copies-after n ∙ ic) ∙ go n h
+      where
+        go : (n : ℕ) → n ≤ to .count → copied (reachedCopying c m r n) ≡ reachedCopying c m r (n + 1)
+        go zero h = rw (reached-none, copying-some 1 (omega arith)) (first-copy below goal)
+        go (suc j) h =
+            let e = add-one j in
+            rw (copying-some (suc j) (omega arith), copying-some (suc j + 1) (omega arith), ← e) (one-more j (λ z. omega arith) below)
+
+    tc-after : (n : ℕ) → n ≤ to .count → reachesTc (here n .controller) ≡ eqb (to .count - n) 0
+    unfolding runner when
+    tc-after n h = simp (copies-after n ∙ ic) (ap (λ (k : ℕ). eqb k 0) (count-after n h))
+
+    single-after : (n : ℕ) → single (here n .controller) ≡ false
+    unfolding single
+    single-after n = simp (copies-after n ∙ ic)
+
+    over-after : (n : ℕ) (tc : Bool) → over (here n .controller) tc ≡ finished (put (here n .controller) Request (withBit (here n .controller .request) 0 false)) 1 tc
+    unfolding over when
+    over-after n tc = simp (copies-after n ∙ ic)
+
+    module _ (limit eop : ℕ) (d : List ℕ) where
+      way : Way d here false (to .count)
+      way = record { more = λ n h. reached-more n h d; tc = tc-after; lone = λ n h. single-after n; made = transfers-after }
+
+      free-after : (n : ℕ) → n < limit → Free (stops (here n) d (limit - n))
+      unfolding stops first when
+      free-after n h x = let more : limit - n ≡ 0 → ⊥ = λ e. omega arith in simp (copies-after n ∙ ic, ne-eqb _ _ more)
+
+      stops-after : Gives (stops (here limit) d (limit - limit)) (stop (here limit) Limit)
+      unfolding stops first when
+      stops-after x = let none : limit - limit ≡ 0 = omega arith in simp (copies-after limit ∙ ic, eq-eqb _ _ none)
+
+      pub copy-ends : (n : ℕ) → n ≡ untilEnd false (to .count) eop → n ≤ limit
+          → runOf limit eop d (startOf c m r)
+          ≡ stop (withController (here n) (finished (put (here n .controller) Request (withBit (here n .controller .request) 0 false)) 1 (eqb n (to .count + 1)))) Ended
+      copy-ends n e h =
+          let u : Until false (to .count) eop n = rw e (until false (to .count) eop) in
+          let met : eqb n (to .count + 1) || eqb n eop ≡ true =
+          not-false _ (λ z. never (sym (u .last (eqb-false _ _ (neither-left (eqb n (to .count + 1)) (eqb n eop) z)) (eqb-false _ _ (neither-right (eqb n (to .count + 1)) (eqb n eop) z))))) in
+          ap (λ (w : World). runOf limit eop d w) (sym reached-none)
+          ∙ way-end limit eop d here false (to .count) way n u h (λ k l. free-after k (omega arith))
+          ∙ ap (λ (x : Controller). stop (withController (here n) x) Ended) (when-hit _ _ (ended (here n .controller)) met ∙ over-after n (eqb n (to .count + 1)))
+
+      pub copy-halts : limit < untilEnd false (to .count) eop → runOf limit eop d (startOf c m r) ≡ stop (here limit) Limit
+      copy-halts h =
+          ap (λ (w : World). runOf limit eop d w) (sym reached-none)
+          ∙ way-on limit eop d here false (to .count) way (untilEnd false (to .count) eop) (until false (to .count) eop) limit h (omega arith) (λ k l. free-after k l)
+          ∙ run-stop eop d (here limit) (limit - limit) _ stops-after

@@ -1,0 +1,221 @@
+-- Many transfers at once of a service that is not memory-to-memory: one transfer more is one step of the rules.
+-- Assumes nothing.
+use Prim.Native.Nat.{ℕ, zero, suc, _+_, _-_, _*_, _≤_, _<_, suc-le-suc, zero-le}
+use mathlib.Core.Path.{_≡_, refl, sym, ap, _∙_}
+use mathlib.Core.Bool.{Bool, true, false, not}
+use mathlib.Core.List.{List, [], _∷_}
+use native.Mathlib.Omega.{arith}
+use native.Mathlib.Numerals.{add-one}
+use native.Mathlib.Nat.{suc-mul, zero-add}
+use lib.ListN.{length, getD, set}
+use lib.Seq.{getD-set-same, set-set}
+use borrow.Author.Tests.{ne-eqb}
+use Rattle.words.specs.Choice.{when}
+use Rattle.words.specs.Steps.{step, steps, stride}
+use Rattle.am9517.specs.State.{blank, withChannel}
+use Rattle.am9517.specs.Modes.{decrement}
+use Rattle.am9517.specs.Serving.{active}
+use Rattle.am9517.specs.declared.Channel.{Channel}
+use Rattle.am9517.specs.declared.Controller.{Controller}
+use Rattle.service.specs.World.{World, startOf, copies, server}
+use Rattle.service.specs.Stops.{dropped}
+use Rattle.service.specs.States.{plain, latches, latched, cost}
+use Rattle.service.specs.Transfer.{at, stepped, writes, reads, moved}
+use Rattle.service.specs.Run.{transferred}
+use Rattle.service.specs.Closed.{along, onward, entered, spread, movedOn, statesOf, travelled, reached}
+use Rattle.words.proofs.ChoiceLaws.{when-both, when-same, never}
+use Rattle.words.proofs.StepLaws.{steps-none, steps-one, steps-next}
+use Rattle.service.proofs.AddressLaws.{entered-more, entered-none}
+use Rattle.service.proofs.SpreadLaws.{spread-more, length-spread}
+use Rattle.service.proofs.BoundLaws.{read-not-write}
+use Rattle.service.proofs.RunLaws.{transferred-moved}
+
+-- a channel with a count that is not 0 is one of the four
+pub inside-of : (l : List Channel) (n : ℕ) → (getD l n blank .count ≡ 0 → ⊥) → n < length l
+inside-of [] n h = absurd (h refl)
+inside-of (x ∷ xs) zero h = suc-le-suc zero-le
+inside-of (x ∷ xs) (suc n) h = suc-le-suc (inside-of xs n h)
+
+pub count-left : (count j : ℕ) → j ≤ count → count < 65536 → steps 16 true count j ≡ count - j
+unfolding steps stride when
+count-left count j h l = omega arith
+
+-- one transfer more of a channel
+pub stepped-onward : (ch : Channel) (j : ℕ) → stepped (onward ch j) ≡ onward ch (j + 1)
+unfolding onward along
+stepped-onward ch j =
+    ap (λ (a : ℕ). at ch a (step 16 true (steps 16 true (ch .count) j))) (steps-next 16 (decrement (ch .mode)) (ch .address) j)
+    ∙ ap (λ (n : ℕ). at ch (steps 16 (decrement (ch .mode)) (ch .address) (j + 1)) n) (steps-next 16 true (ch .count) j)
+
+pub along-none : (ch : Channel) → ch .address < 65536 → along ch 0 ≡ ch .address
+unfolding along
+along-none ch h = steps-none 16 (decrement (ch .mode)) (ch .address) h
+
+pub stepped-first : (ch : Channel) → stepped ch ≡ onward ch 1
+unfolding onward along
+stepped-first ch =
+    ap (λ (a : ℕ). at ch a (step 16 true (ch .count))) (sym (steps-one 16 (decrement (ch .mode)) (ch .address)))
+    ∙ ap (λ (n : ℕ). at ch (steps 16 (decrement (ch .mode)) (ch .address) 1) n) (sym (steps-one 16 true (ch .count)))
+
+pub onward-mode : (ch : Channel) (j : ℕ) → onward ch j .mode ≡ ch .mode
+unfolding onward
+onward-mode ch j = refl
+
+pub onward-count : (ch : Channel) (j : ℕ) → onward ch j .count ≡ steps 16 true (ch .count) j
+unfolding onward
+onward-count ch j = refl
+
+-- whether a line drops depends on pins, command, serving channel and its mode alone
+dropped-by : (c x : Controller) → x .pins ≡ c .pins → x .command ≡ c .command → x .serving ≡ c .serving → server x .mode ≡ server c .mode → dropped x ≡ dropped c
+unfolding dropped active
+dropped-by c x p k n e = rw e (simp (p, k, n))
+
+-- the transfer of a world whose serving channel is this
+abbrev movedWith : World → List ℕ → Channel → World
+movedWith w d ch =
+    let c = w .controller in
+    record {
+      controller = latched (withChannel c (c .serving) (stepped ch)) (ch .address);
+      memory = when (writes ch) (set (w .memory) (ch .address) (getD d (w .used) 0)) (w .memory);
+      room = when (reads ch) (set (w .room) (w .written) (getD (w .memory) (ch .address) 0)) (w .room);
+      transfers = w .transfers + 1;
+      used = w .used + when (writes ch) 1 0;
+      written = w .written + when (reads ch) 1 0;
+      states = w .states + cost c (ch .address);
+    }
+
+moved-by : (w : World) (d : List ℕ) (ch : Channel) → server (w .controller) ≡ ch → moved w d ≡ movedWith w d ch
+unfolding moved
+moved-by w d ch e = ap (movedWith w d) e
+
+-- what a kind of transfer counts, one more
+counts-on : (b : Bool) (j : ℕ) → when b j 0 + when b 1 0 ≡ when b (j + 1) 0
+unfolding when
+counts-on true j = refl
+counts-on false j = refl
+
+next-mul : (n p : ℕ) → (n + 1) * p ≡ n * p + p
+next-mul n p = ap (λ (k : ℕ). k * p) (add-one n) ∙ suc-mul n p
+
+module _ (c : Controller) (m d r : List ℕ) where
+  abbrev ch : Channel
+  ch = server c
+
+  memory-on : (b : Bool) (j : ℕ) → when b (set (when b (spread (along ch) (λ (i : ℕ). i) d m j) m) (along ch j) (getD d (when b j 0) 0)) (when b (spread (along ch) (λ (i : ℕ). i) d m j) m) ≡ when b (spread (along ch) (λ (i : ℕ). i) d m (j + 1)) m
+  unfolding when
+  memory-on true j = spread-more (along ch) (λ (i : ℕ). i) d m j (along ch j) j refl refl _ refl
+  memory-on false j = refl
+
+  room-on : (b w : Bool) (j : ℕ) → (b ≡ true → w ≡ false) → when b (set (when b (spread (λ (i : ℕ). i) (along ch) m r j) r) (when b j 0) (getD (when w (spread (along ch) (λ (i : ℕ). i) d m j) m) (along ch j) 0)) (when b (spread (λ (i : ℕ). i) (along ch) m r j) r) ≡ when b (spread (λ (i : ℕ). i) (along ch) m r (j + 1)) r
+  unfolding when
+  room-on true true j h = never (h refl)
+  room-on true false j h = spread-more (λ (i : ℕ). i) (along ch) m r j j (along ch j) refl refl _ refl
+  room-on false w j h = refl
+
+  pub server-there : (n : ℕ) → (ch .count ≡ 0 → ⊥) → server (movedOn c n) ≡ onward ch n
+  server-there n nz = getD-set-same (c .channels) (c .serving) (onward ch n) blank (inside-of (c .channels) (c .serving) nz)
+
+  abbrev down : Bool
+  down = decrement (ch .mode)
+
+  -- the states of one transfer more
+  states-on : (j : ℕ) → statesOf c (j + 1) + cost (movedOn c (j + 1)) (along ch (j + 1)) ≡ statesOf c (j + 1 + 1)
+  unfolding statesOf cost plain latches along
+  states-on j =
+      let a = ch .address in
+      let p = plain c in
+      let back : j + 1 - 1 ≡ j = omega arith in
+      let back' : j + 1 + 1 - 1 ≡ j + 1 = omega arith in
+      let more = entered-more down a j in
+      let times = next-mul (j + 1) p in
+      rw (back, back') (omega (arith, more, times))
+
+  one-more : (j : ℕ) → (ch .count ≡ 0 → ⊥) → moved (travelled c m d r (j + 1)) d ≡ travelled c m d r (j + 1 + 1)
+  unfolding travelled onward
+  one-more j nz =
+      let back : j + 1 + 1 - 1 ≡ j + 1 = omega arith in
+      let chs : set (set (c .channels) (c .serving) (onward ch (j + 1))) (c .serving) (stepped (onward ch (j + 1))) ≡ set (c .channels) (c .serving) (onward ch (j + 1 + 1)) =
+      set-set (c .channels) (c .serving) (onward ch (j + 1)) (stepped (onward ch (j + 1))) ∙ ap (λ (x : Channel). set (c .channels) (c .serving) x) (stepped-onward ch (j + 1)) in
+      moved-by (travelled c m d r (j + 1)) d (onward ch (j + 1)) (server-there (j + 1) nz)
+      ∙ simp (chs, back, memory-on (writes ch) (j + 1), room-on (reads ch) (writes ch) (j + 1) (read-not-write ch), counts-on (writes ch) (j + 1), counts-on (reads ch) (j + 1), states-on j)
+
+  -- the first transfer
+  states-first : cost c (ch .address) ≡ statesOf c 1
+  unfolding statesOf cost
+  states-first =
+      let none : entered down (ch .address) (1 - 1) ≡ 0 = entered-none down (ch .address) in
+      omega (arith, none)
+
+  first-move : ch .address < 65536 → moved (startOf c m r) d ≡ travelled c m d r 1
+  unfolding travelled moved spread
+  first-move below =
+      let chs : set (c .channels) (c .serving) (stepped ch) ≡ set (c .channels) (c .serving) (onward ch 1) = ap (λ (x : Channel). set (c .channels) (c .serving) x) (stepped-first ch) in
+      simp (chs, along-none ch below, zero-add, states-first)
+
+  -- what stays and what goes on in the world after n transfers
+  pub record Standing (w : World) (n : ℕ) : Type 0 where
+    pub copies : copies (w .controller) ≡ copies c
+    pub dropped : dropped (w .controller) ≡ dropped c
+    pub serving : w .controller .serving ≡ c .serving
+    pub mode : server (w .controller) .mode ≡ ch .mode
+    pub count : server (w .controller) .count ≡ ch .count - n
+    pub transfers : w .transfers ≡ n
+    pub used : w .used ≡ when (writes ch) n 0
+    pub written : w .written ≡ when (reads ch) n 0
+    pub room : length (w .room) ≡ length r
+
+  standing-start : Standing (startOf c m r) 0
+  unfolding when
+  standing-start =
+      record {
+        copies = refl;
+        dropped = refl;
+        serving = refl;
+        mode = refl;
+        count = omega arith;
+        transfers = refl;
+        used = sym (when-same (writes ch) 0);
+        written = sym (when-same (reads ch) 0);
+        room = refl;
+      }
+
+  standing-on : (j : ℕ) → j + 1 ≤ ch .count → ch .count < 65536 → Standing (travelled c m d r (j + 1)) (j + 1)
+  unfolding travelled copies
+  standing-on j h l =
+      let there : server (movedOn c (j + 1)) ≡ onward ch (j + 1) = server-there (j + 1) (λ e. omega arith) in
+      record {
+        copies = refl;
+        dropped = dropped-by c (movedOn c (j + 1)) refl refl refl (ap (λ (x : Channel). x .mode) there ∙ onward-mode ch (j + 1));
+        serving = refl;
+        mode = ap (λ (x : Channel). x .mode) there ∙ onward-mode ch (j + 1);
+        count = ap (λ (x : Channel). x .count) there ∙ onward-count ch (j + 1) ∙ count-left (ch .count) (j + 1) h l;
+        transfers = refl;
+        used = refl;
+        written = refl;
+        room = when-both (λ (x : List ℕ). length x ≡ length r) (reads ch) (length-spread (λ (i : ℕ). i) (along ch) m r (j + 1)) refl;
+      }
+
+  pub reached-none : reached c m d r 0 ≡ startOf c m r
+  unfolding reached when
+  reached-none = refl
+
+  pub reached-some : (n : ℕ) → 0 < n → reached c m d r n ≡ travelled c m d r n
+  unfolding reached when
+  reached-some n h = let nz : n ≡ 0 → ⊥ = λ e. omega arith in simp (ne-eqb n 0 nz)
+
+  pub standing : (n : ℕ) → n ≤ ch .count → ch .count < 65536 → Standing (reached c m d r n) n
+  standing zero h l = rw reached-none standing-start
+  standing (suc j) h l =
+      let e = add-one j in
+      rw (reached-some (suc j) (omega arith), ← e) (standing-on j (omega arith) l)
+
+  -- One transfer more, as long as the count lasts.
+  pub reached-more : (n : ℕ) → n ≤ ch .count → ch .count < 65536 → ch .address < 65536 → copies c ≡ false → transferred (reached c m d r n) d ≡ reached c m d r (n + 1)
+  reached-more n h l b nc =
+      transferred-moved 0 d (reached c m d r n) (standing n h l .copies ∙ nc) ∙ go n h
+    where
+      go : (n : ℕ) → n ≤ ch .count → moved (reached c m d r n) d ≡ reached c m d r (n + 1)
+      go zero h = rw (reached-none, reached-some 1 (omega arith)) (first-move b)
+      go (suc j) h =
+          let e = add-one j in
+          rw (reached-some (suc j) (omega arith), reached-some (suc j + 1) (omega arith), ← e) (one-more j (λ z. omega arith))

@@ -1,0 +1,13 @@
+use borrow.Author.Needs.{needs}
+use Rattle.am9517.specs.Refusals.{refusal}
+use Rattle.words.specs.Grounds.{first}
+use Rattle.service.proofs.run_refusal.Statement.{statement}
+use Rattle.service.proofs.run_refusal.Tie as tie
+
+returns : tie.Need-returns
+unfolding refusal first
+returns c = cc
+
+pub run-refusal-spec : {M : Type 1} → statement M
+run-refusal-spec =
+    tie.close (tie.spec (search needs) (search needs) (search needs) (search needs) returns)

@@ -1,0 +1,12 @@
+use borrow.Author.Needs.{needs}
+use Rattle.service.specs.Stops.{dropped}
+use Rattle.service.proofs.serving.dropped.Statement.{statement}
+use Rattle.service.proofs.serving.dropped.Tie as tie
+
+returns : tie.Need-returns
+unfolding dropped
+returns c = cc
+
+pub dropped-spec : {M : Type 1} → statement M
+dropped-spec =
+    tie.close (tie.spec (search needs) (search needs) (search needs) (search needs) returns)

@@ -1,0 +1,22 @@
+-- The run of an open service: transfers until something stops it.
+use Prim.Native.Nat.{ℕ, zero, suc}
+use mathlib.Core.List.{List}
+use Rattle.words.specs.Choice.{when}
+use Rattle.words.specs.Grounds.{first}
+use Rattle.service.specs.declared.Reason.the-variants.{Limit}
+use Rattle.service.specs.World.{World, copies, Stop, stop}
+use Rattle.service.specs.Stops.{stops}
+use Rattle.service.specs.Transfer.{moved}
+use Rattle.service.specs.Copy.{copied}
+use Rattle.service.specs.Ends.{ends}
+
+-- the world after one transfer of either sort; d is the device's bytes
+unfoldable pub transferred : World → List ℕ → World
+transferred w d = when (copies (w .controller)) (copied w) (moved w d)
+
+-- with left more transfers allowed; the transfer of this call whose number is eop meets external EOP
+unfoldable pub runOf : ℕ → ℕ → List ℕ → World → Stop
+runOf zero eop d w = first (stops w d 0) (stop w Limit)
+runOf (suc left) eop d w =
+    let next = transferred w d in
+    first (stops w d (suc left)) (first (ends (w .controller) next eop) (runOf left eop d next))

@@ -1,0 +1,27 @@
+-- "Working states. Normal transfer 3, compressed 2, plus 1 (state S1) when the latch is empty or differs from the upper address byte,
+-- which is then latched. Memory-to-memory 8 always, latch unused."
+use Prim.Native.Nat.{ℕ, _+_}
+use mathlib.Core.Bool.{Bool, not, _||_}
+use lib.Dec.{eqb}
+use Rattle.words.specs.Choice.{when}
+use Rattle.words.specs.Bytes.{highByte}
+use Rattle.am9517.specs.State.{put, Field, LatchFull, Latch}
+use Rattle.am9517.specs.Modes.{compressed}
+use Rattle.am9517.specs.declared.Controller.{Controller}
+
+-- the states of a transfer whose upper address byte is latched
+unfoldable pub plain : Controller → ℕ
+plain c = when (compressed c) 2 3
+
+-- state S1 is needed for the address a
+unfoldable pub latches : Controller → ℕ → Bool
+latches c a = not (eqb (c .«latch_full») 1) || not (eqb (c .latch) (highByte a))
+
+unfoldable pub cost : Controller → ℕ → ℕ
+cost c a = plain c + when (latches c a) 1 0
+
+abbrev pub latched : Controller → ℕ → Controller
+latched c a = put (put c LatchFull 1) Latch (highByte a)
+
+abbrev pub copyCost : ℕ
+copyCost = 8

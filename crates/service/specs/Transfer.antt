@@ -1,0 +1,46 @@
+-- "The transfer": bytes, address, count, and what is counted.
+use Prim.Native.Nat.{ℕ, _+_}
+use mathlib.Core.Bool.{Bool, true}
+use mathlib.Core.List.{List}
+use lib.Dec.{eqb}
+use lib.ListN.{getD, set}
+use Rattle.words.specs.Choice.{when}
+use Rattle.words.specs.Steps.{step}
+use Rattle.am9517.specs.State.{withChannel}
+use Rattle.am9517.specs.Modes.{typeOf, decrement}
+use Rattle.am9517.specs.declared.Channel.{Channel}
+use Rattle.am9517.specs.declared.Controller.{Controller}
+use Rattle.service.specs.World.{World, server}
+use Rattle.service.specs.States.{cost, latched}
+
+-- the channel at another address and count
+abbrev pub at : Channel → ℕ → ℕ → Channel
+at ch a n =
+    record { «base_address» = ch .«base_address»; address = a; «base_count» = ch .«base_count»; count = n; mode = ch .mode }
+
+-- "The address steps by one up or down and wraps modulo 65,536. The count steps down; from 0 it becomes FFFFh, which is TC."
+abbrev pub stepped : Channel → Channel
+stepped ch = at ch (step 16 (decrement (ch .mode)) (ch .address)) (step 16 true (ch .count))
+
+-- a write, a read
+abbrev pub writes : Channel → Bool
+writes ch = eqb (typeOf (ch .mode)) 1
+
+abbrev pub reads : Channel → Bool
+reads ch = eqb (typeOf (ch .mode)) 2
+
+-- "verify moves nothing; write stores the next device byte at the current address;
+-- read puts that memory byte in the next place of the room"
+unfoldable pub moved : World → List ℕ → World
+moved w d =
+    let c = w .controller in
+    let ch = server c in
+    record {
+      controller = latched (withChannel c (c .serving) (stepped ch)) (ch .address);
+      memory = when (writes ch) (set (w .memory) (ch .address) (getD d (w .used) 0)) (w .memory);
+      room = when (reads ch) (set (w .room) (w .written) (getD (w .memory) (ch .address) 0)) (w .room);
+      transfers = w .transfers + 1;
+      used = w .used + when (writes ch) 1 0;
+      written = w .written + when (reads ch) 1 0;
+      states = w .states + cost c (ch .address);
+    }

@@ -1,0 +1,44 @@
+-- What a run changes: the controller, the memory and the device's room; and what it counts.
+use Prim.Native.Nat.{ℕ}
+use mathlib.Core.Bool.{Bool, _&&_}
+use mathlib.Core.List.{List}
+use lib.Dec.{eqb}
+use Rattle.am9517.specs.State.{channel}
+use Rattle.am9517.specs.Modes.{memoryToMemory}
+use Rattle.am9517.specs.declared.Channel.{Channel}
+use Rattle.am9517.specs.declared.Controller.{Controller}
+use Rattle.service.specs.declared.Reason.{Reason}
+
+pub record World : Type 0 where
+  pub controller : Controller
+  pub memory : List ℕ
+  pub room : List ℕ
+  pub transfers : ℕ
+  pub used : ℕ
+  pub written : ℕ
+  pub states : ℕ
+
+-- where a run begins
+abbrev pub startOf : Controller → List ℕ → List ℕ → World
+startOf c m r = record { controller = c; memory = m; room = r; transfers = 0; used = 0; written = 0; states = 0 }
+
+-- the world with another controller
+abbrev pub withController : World → Controller → World
+withController w c =
+    record { controller = c; memory = w .memory; room = w .room; transfers = w .transfers; used = w .used; written = w .written; states = w .states }
+
+-- "With command bit 0 set, a service of channel 0 is" memory-to-memory.
+unfoldable pub copies : Controller → Bool
+copies c = memoryToMemory c && eqb (c .serving) 0
+
+-- the serving channel
+abbrev pub server : Controller → Channel
+server c = channel c (c .serving)
+
+-- where a run stops, and why
+pub record Stop : Type 0 where
+  pub world : World
+  pub reason : Reason
+
+abbrev pub stop : World → Reason → Stop
+stop w e = record { world = w; reason = e }

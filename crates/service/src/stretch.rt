@@ -1,0 +1,138 @@
+// Many transfers at once of a service that is not memory-to-memory.
+use crate::Trip;
+use crate::moving::load;
+use crate::moving::store;
+use am9517::Channel;
+use am9517::Controller;
+use words::bytes::high_byte;
+use words::choice::when_long;
+use words::choice::when_size;
+use words::steps::steps;
+ghost use mathlib.Core.Path.{_≡_};
+ghost use Prim.Native.Nat.{ℕ, _*_, _≤_, _<_};
+ghost use lib.ListN.{length};
+ghost use Rattle.words.specs.Choice.{when};
+ghost use Rattle.service.specs.World.{server};
+ghost use Rattle.service.specs.Transfer.{writes, reads};
+ghost use Rattle.service.specs.States.{plain, latches};
+ghost use Rattle.service.specs.Closed.{along, onward, entered, movedOn, statesOf, spread, reached, tripWorld};
+ghost use Rattle.service.specs.Needs.{Stocked};
+
+// The address after n transfers.
+pub(crate) fn along(ch: Channel, n: u64) -> u16
+    ensures { λ r. ⌜ r ≡ along ch n ⌝ }
+{
+    steps(ch.address, ch.mode / 32 % 2 == 1, n)
+}
+
+// The channel after n transfers.
+pub(crate) fn onward(ch: Channel, n: u64) -> Channel
+    ensures { λ r. ⌜ r ≡ onward ch n ⌝ }
+{
+    let mut next = ch;
+    next.address = along(ch, n);
+    next.count = steps(ch.count, true, n);
+    next
+}
+
+// The pages entered by n steps from an address.
+fn entered(down: bool, address: u16, n: u64) -> u64
+    requires { ⌜ n ≤ 65536 ⌝ }
+    ensures { λ r. ⌜ (r ≡ entered down address n) × (r ≤ 257) ⌝ }
+{
+    let place = address as u64 % 256;
+    (when_long(down, 255 - place, place) + n) / 256
+}
+
+fn plain(c: Controller) -> u64
+    ensures { λ r. ⌜ (r ≡ plain c) × (r ≤ 3) ⌝ }
+{
+    when_long(c.command / 8 % 2 == 1, 2, 3)
+}
+
+// The latch asks for state S1 at an address.
+fn latches(c: Controller, address: u16) -> bool
+    ensures { λ r. ⌜ r ≡ latches c address ⌝ }
+{
+    (c.latch_full != 1) | (c.latch != high_byte(address))
+}
+
+// The working states of n transfers.
+fn states_of(c: Controller, n: u64) -> u64
+    requires { ⌜ (c .serving < 4) × ((0 < n) × (n ≤ 65536)) ⌝ }
+    ensures { λ r. ⌜ r ≡ statesOf c n ⌝ }
+{
+    let i = c.serving as usize;
+    let ch = c.channels[i];
+    let first = when_long(latches(c, ch.address), 1, 0);
+    let pages = entered(ch.mode / 32 % 2 == 1, ch.address, n - 1);
+    n * plain(c) + (first + pages)
+}
+
+// The controller after n transfers.
+fn moved_on(c: Controller, n: u64) -> Controller
+    requires { ⌜ (c .serving < 4) × (0 < n) ⌝ }
+    ensures { λ r. ⌜ r ≡ movedOn c n ⌝ }
+{
+    let i = c.serving as usize;
+    let ch = c.channels[i];
+    let mut next = c;
+    next.channels[i] = onward(ch, n);
+    next.latch_full = 1;
+    next.latch = high_byte(along(ch, n - 1));
+    next
+}
+
+// The bytes of n transfers.
+fn move_bytes(ch: Channel, memory: &mut [u8], device: &[u8], room: &mut [u8], n: usize)
+    requires { ⌜ Stocked ch (now memory) (now device) (now room) n ⌝ }
+    ensures { λ _. ⌜ now (memory .exit) ≡ when (writes ch) (spread (along ch) (λ (j : ℕ). j) (now (device .entry)) (now (memory .entry)) n) (now (memory .entry)) ⌝ }
+    ensures room { λ _. ⌜ now (room .exit) ≡ when (reads ch) (spread (λ (j : ℕ). j) (along ch) (now (memory .entry)) (now (room .entry)) n) (now (room .entry)) ⌝ }
+{
+    let kind = ch.mode / 4 % 4;
+    let down = ch.mode / 32 % 2 == 1;
+    if kind == 1 {
+        store(memory, down, ch.address as usize, device, n);
+    } else if kind == 2 {
+        load(memory, down, ch.address as usize, room, n);
+    }
+}
+
+// n transfers.
+pub(crate) fn travel(
+    c: Controller,
+    memory: &mut [u8],
+    device: &[u8],
+    room: &mut [u8],
+    n: u64,
+) -> Trip
+    requires { ⌜ c .serving < 4 ⌝ }
+    requires { ⌜ Stocked (server c) (now memory) (now device) (now room) n ⌝ }
+    ensures { λ r. ⌜ tripWorld r (now (memory .exit)) (now (room .exit)) ≡ reached c (now (memory .entry)) (now (device .entry)) (now (room .entry)) n ⌝ }
+{
+    if n == 0 {
+        return Trip {
+            controller: c,
+            transfers: 0,
+            used: 0,
+            written: 0,
+            states: 0,
+        };
+    }
+    let i = c.serving as usize;
+    let ch = c.channels[i];
+    let size = n as usize;
+    let kind = ch.mode / 4 % 4;
+    let used = when_size(kind == 1, size, 0);
+    let written = when_size(kind == 2, size, 0);
+    let states = states_of(c, n);
+    let controller = moved_on(c, n);
+    move_bytes(ch, memory, device, room, size);
+    Trip {
+        controller,
+        transfers: n,
+        used,
+        written,
+        states,
+    }
+}
