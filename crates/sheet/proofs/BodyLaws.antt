@@ -1,0 +1,36 @@
+-- A state and its body.
+-- Assumes nothing.
+use Prim.Native.Nat.{ℕ}
+use mathlib.Core.Path.{_≡_, refl, ap}
+use mathlib.Core.List.{List, [], _∷_, _++_}
+use native.Mathlib.Omega.{arith}
+use lib.ListN.{length, getD}
+use Rattle.am9517.specs.State.{blank, make, field}
+use Rattle.am9517.specs.declared.Channel.{Channel}
+use Rattle.am9517.specs.declared.Controller.{Controller}
+use Rattle.sheet.specs.Bytes.{OfBytes}
+use Rattle.sheet.specs.Body.{bodyOf, stateOf}
+use Rattle.sheet.proofs.BytesLaws.{word-whole, word-low, word-high, cells}
+
+pub body-length : (s : Controller) → length (bodyOf s) ≡ 48
+unfolding bodyOf
+body-length s = refl
+
+-- a list of four is its four elements
+four : (cs : List Channel) → length cs ≡ 4 → getD cs 0 blank ∷ getD cs 1 blank ∷ getD cs 2 blank ∷ getD cs 3 blank ∷ [] ≡ cs
+four [] h = absurd (omega arith)
+four (a ∷ []) h = absurd (omega arith)
+four (a ∷ b ∷ []) h = absurd (omega arith)
+four (a ∷ b ∷ c ∷ []) h = absurd (omega arith)
+four (a ∷ b ∷ c ∷ d ∷ []) h = refl
+four (a ∷ b ∷ c ∷ d ∷ e ∷ cs) h = absurd (omega arith)
+
+-- the state that a state's body tells, whatever stands behind it
+pub state-of-body : (s : Controller) (rest : List ℕ) → length (s .channels) ≡ 4 → stateOf (bodyOf s ++ rest) ≡ s
+unfolding stateOf bodyOf
+state-of-body s rest h = simp word-whole (ap (λ (cs : List Channel). make cs (field s)) (four (s .channels) h))
+
+-- the body of the state that bytes tell is their first 48
+pub body-of-state : (xs : List ℕ) → OfBytes xs → bodyOf (stateOf xs) ≡ cells 0 48 xs
+unfolding bodyOf stateOf
+body-of-state xs byte = simp (word-low, word-high, byte)
