@@ -4,17 +4,25 @@ use Prim.Native.Nat.{ℕ}
 use mathlib.Core.Path.{_≡_, refl, ap}
 use mathlib.Core.List.{List, [], _∷_, _++_}
 use native.Mathlib.Omega.{arith}
-use lib.ListN.{length, getD}
-use Rattle.am9517.specs.State.{blank, make, field}
+use lib.ListN.{length, getD, replicate}
+use Rattle.am9517.specs.State.{blank, channel, make, field}
 use Rattle.am9517.specs.declared.Channel.{Channel}
 use Rattle.am9517.specs.declared.Controller.{Controller}
-use Rattle.sheet.specs.Bytes.{OfBytes}
-use Rattle.sheet.specs.Body.{bodyOf, stateOf}
+use Rattle.sheet.specs.Bytes.{placed, OfBytes}
+use Rattle.sheet.specs.Body.{channelBytes, fieldBytes, bodyOf, stateOf}
 use Rattle.sheet.proofs.BytesLaws.{word-whole, word-low, word-high, cells}
 
 pub body-length : (s : Controller) → length (bodyOf s) ≡ 48
 unfolding bodyOf
 body-length s = refl
+
+-- four channels and the fields, stored one behind the other
+pub body-stored : (s : Controller) (p0 p1 p2 p3 p4 b0 b1 b2 b3 b4 : List ℕ)
+    → p0 ≡ channelBytes (channel s 0) → p1 ≡ channelBytes (channel s 1) → p2 ≡ channelBytes (channel s 2)
+    → p3 ≡ channelBytes (channel s 3) → p4 ≡ fieldBytes s → b0 ≡ placed (replicate 48 0) 0 p0 → b1 ≡ placed b0 9 p1
+    → b2 ≡ placed b1 18 p2 → b3 ≡ placed b2 27 p3 → b4 ≡ placed b3 36 p4 → b4 ≡ bodyOf s
+unfolding bodyOf
+body-stored s p0 p1 p2 p3 p4 b0 b1 b2 b3 b4 e0 e1 e2 e3 e4 h0 h1 h2 h3 h4 = rw (h4, h3, h2, h1, h0, e4, e3, e2, e1, e0)
 
 -- a list of four is its four elements
 four : (cs : List Channel) → length cs ≡ 4 → getD cs 0 blank ∷ getD cs 1 blank ∷ getD cs 2 blank ∷ getD cs 3 blank ∷ [] ≡ cs

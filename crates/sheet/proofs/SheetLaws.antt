@@ -9,7 +9,6 @@ use lib.ListN.{length}
 use borrow.Author.Tests.{ltb-false, le-ltb}
 use Rattle.words.specs.Choice.{when}
 use Rattle.words.specs.Grounds.{first}
-use Rattle.words.proofs.GroundLaws.{passed}
 use Rattle.am9517.specs.Ranges.{valid}
 use Rattle.am9517.specs.Refusals.{refusal}
 use Rattle.am9517.specs.declared.Controller.{Controller}
@@ -17,6 +16,7 @@ use Rattle.sheet.specs.Bytes.{last}
 use Rattle.sheet.specs.Body.{stateOf}
 use Rattle.sheet.specs.Trailer.{trailerGrounds}
 use Rattle.sheet.specs.Sheet.{sheetWriteGrounds, sheetReadGrounds}
+use Rattle.words.proofs.GroundLaws.{passed}
 
 -- an accepted write has its room
 pub write-room : (s : Controller) (n : ℕ) → refusal (sheetWriteGrounds s n) ≡ 0 → 56 ≤ n

@@ -1,20 +1,20 @@
 -- A trailer is accepted behind its body, and what is accepted there is the trailer. For every form.
 -- Assumes nothing.
 use Prim.Native.Nat.{ℕ, _+_, _<_, _≤_}
-use mathlib.Core.Path.{_≡_, refl, sym, ap, _∙_}
+use mathlib.Core.Path.{_≡_, sym, ap, _∙_}
 use mathlib.Core.Bool.{not, false}
 use mathlib.Core.List.{List, [], _∷_, _++_}
 use native.Mathlib.Omega.{arith}
 use lib.Dec.{eqb}
-use lib.ListN.{length, getD, take, drop}
+use lib.ListN.{length, take}
 use lib.Seq.{take-append-seam}
 use borrow.Author.Tests.{eqb-true, eq-eqb, not-false}
 use Rattle.words.specs.Choice.{when}
-use Rattle.words.specs.Bytes.{wordOf, lowByte, highByte}
+use Rattle.words.specs.Bytes.{wordOf}
 use Rattle.words.specs.Grounds.{first}
-use Rattle.words.proofs.GroundLaws.{passed}
-use Rattle.sheet.specs.Bytes.{wordBytes, word, total, placed, OfBytes}
+use Rattle.sheet.specs.Bytes.{word, total, placed}
 use Rattle.sheet.specs.Trailer.{endMark, trailerOf, withTrailer, trailerGrounds}
+use Rattle.words.proofs.GroundLaws.{passed}
 use Rattle.sheet.proofs.BytesLaws.{placed-next, word-whole, word-low, word-high, word-behind, word-at-seam}
 
 -- body, then trailer: two stores

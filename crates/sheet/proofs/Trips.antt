@@ -8,21 +8,21 @@ use native.Mathlib.Omega.{arith}
 use lib.Dec.{eqb}
 use lib.ListN.{length, take, replicate, length-drop}
 use lib.Seq.{getD-drop}
-use borrow.Author.Tests.{eqb-true, eq-eqb, not-false, le-ltb}
+use borrow.Author.Tests.{eqb-true, not-false, le-ltb}
 use Rattle.words.specs.Choice.{when}
 use Rattle.words.specs.Grounds.{first}
-use Rattle.words.proofs.GroundLaws.{passed}
 use Rattle.am9517.specs.State.{fresh}
 use Rattle.am9517.specs.Ranges.{valid}
 use Rattle.am9517.specs.Refusals.{refusal}
 use Rattle.am9517.specs.Answers.{numberOf, outcome}
 use Rattle.am9517.specs.declared.Controller.{Controller}
 use Rattle.am9517.specs.declared.Answer.the-variants.{Done, Refused}
-use Rattle.am9517.proofs.RefusalLaws.{number-told}
 use Rattle.sheet.specs.Bytes.{total, placed, last, OfBytes}
 use Rattle.sheet.specs.Body.{bodyOf, stateOf}
 use Rattle.sheet.specs.Trailer.{trailerOf, withTrailer, trailerGrounds}
 use Rattle.sheet.specs.Sheet.{sheetOf, stored, sheetWriteGrounds, sheetWriteOf, sheetReadGrounds, sheetReadOf}
+use Rattle.words.proofs.GroundLaws.{passed}
+use Rattle.am9517.proofs.RefusalLaws.{number-told}
 use Rattle.sheet.proofs.BytesLaws.{length-placed, last-placed, placed-self, cells, cells-all}
 use Rattle.sheet.proofs.TrailerLaws.{trailer-accepted, trailer-told, trailer-bytes}
 use Rattle.sheet.proofs.BodyLaws.{body-length, state-of-body, body-of-state}

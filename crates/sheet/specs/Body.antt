@@ -1,8 +1,7 @@
 -- The 48 bytes of a state, and the state that 48 bytes tell.
 use Prim.Native.Nat.{ℕ, _+_, _*_}
 use mathlib.Core.List.{List, [], _∷_, _++_, map}
-use lib.ListN.{getD, set}
-use Rattle.words.specs.Bytes.{lowByte, highByte}
+use lib.ListN.{getD}
 use Rattle.am9517.specs.State.{Field, Command, Tc, Request, Mask, Temporary, FlipFlop, Pins, Lowest, InService, Serving, LatchFull, Latch, field, make, channel}
 use Rattle.am9517.specs.declared.Channel.{Channel}
 use Rattle.am9517.specs.declared.Controller.{Controller}
@@ -28,15 +27,6 @@ channelAt b k =
       mode = getD b (k + 8) 0;
     }
 
--- the bytes b with those of channel c from place k on
-unfoldable pub withChannelAt : List ℕ → ℕ → Channel → List ℕ
-withChannelAt b k c =
-    let b = set (set b k (lowByte (c .«base_address»))) (k + 1) (highByte (c .«base_address»)) in
-    let b = set (set b (k + 2) (lowByte (c .address))) (k + 3) (highByte (c .address)) in
-    let b = set (set b (k + 4) (lowByte (c .«base_count»))) (k + 5) (highByte (c .«base_count»)) in
-    let b = set (set b (k + 6) (lowByte (c .count))) (k + 7) (highByte (c .count)) in
-    set b (k + 8) (c .mode)
-
 -- "36 command; 37 TC; 38 request; 39 mask; 40 temporary; 41 flip-flop; 42 pins; 43 lowest; 44 in service; 45 serving;
 -- 46 latch full; 47 latch"
 abbrev pub place : Field → ℕ
@@ -53,10 +43,11 @@ place Serving = 45
 place LatchFull = 46
 place Latch = 47
 
--- the fields, in the order of their places
-abbrev pub placedFields : List Field
-placedFields =
-    Command ∷ Tc ∷ Request ∷ Mask ∷ Temporary ∷ FlipFlop ∷ Pins ∷ Lowest ∷ InService ∷ Serving ∷ LatchFull ∷ Latch ∷ []
+-- in the order of their places
+abbrev pub fieldBytes : Controller → List ℕ
+fieldBytes s =
+    map (field s)
+    (Command ∷ Tc ∷ Request ∷ Mask ∷ Temporary ∷ FlipFlop ∷ Pins ∷ Lowest ∷ InService ∷ Serving ∷ LatchFull ∷ Latch ∷ [])
 
 -- "Body, 48 bytes"
 unfoldable pub bodyOf : Controller → List ℕ
@@ -65,7 +56,7 @@ bodyOf s =
     ++ channelBytes (channel s 1)
     ++ channelBytes (channel s 2)
     ++ channelBytes (channel s 3)
-    ++ map (field s) placedFields
+    ++ fieldBytes s
 
 -- the state that the first 48 bytes tell, in its ranges or not
 unfoldable pub stateOf : List ℕ → Controller

@@ -1,4 +1,5 @@
 // The 48 bytes of a body, to and from a state.
+use crate::bytes::store;
 use crate::bytes::word;
 use am9517::Channel;
 use am9517::Controller;
@@ -7,47 +8,58 @@ use words::bytes::low_byte;
 ghost use mathlib.Core.Path.{_≡_};
 ghost use Prim.Native.Nat.{_+_, _<_, _≤_};
 ghost use lib.ListN.{length};
-ghost use Rattle.sheet.specs.Body.{channelAt, withChannelAt, bodyOf, stateOf};
+ghost use Rattle.sheet.specs.Body.{channelBytes, channelAt, fieldBytes, bodyOf, stateOf};
 
-// The body with channel c from place `at` on.
-fn with_channel(body: [u8; 48], at: usize, c: Channel) -> [u8; 48]
-    requires { ⌜ at + 9 ≤ 48 ⌝ }
-    ensures { λ r. ⌜ r ≡ withChannelAt body at c ⌝ }
+fn channel_bytes(c: Channel) -> [u8; 9]
+    ensures { λ r. ⌜ r ≡ channelBytes c ⌝ }
 {
-    let mut next = body;
-    next[at] = low_byte(c.base_address);
-    next[at + 1] = high_byte(c.base_address);
-    next[at + 2] = low_byte(c.address);
-    next[at + 3] = high_byte(c.address);
-    next[at + 4] = low_byte(c.base_count);
-    next[at + 5] = high_byte(c.base_count);
-    next[at + 6] = low_byte(c.count);
-    next[at + 7] = high_byte(c.count);
-    next[at + 8] = c.mode;
-    next
+    [
+        low_byte(c.base_address),
+        high_byte(c.base_address),
+        low_byte(c.address),
+        high_byte(c.address),
+        low_byte(c.base_count),
+        high_byte(c.base_count),
+        low_byte(c.count),
+        high_byte(c.count),
+        c.mode,
+    ]
+}
+
+fn field_bytes(c: Controller) -> [u8; 12]
+    ensures { λ r. ⌜ r ≡ fieldBytes c ⌝ }
+{
+    [
+        c.command,
+        c.tc,
+        c.request,
+        c.mask,
+        c.temporary,
+        c.flip_flop,
+        c.pins,
+        c.lowest,
+        c.in_service,
+        c.serving,
+        c.latch_full,
+        c.latch,
+    ]
 }
 
 pub fn body_of(c: Controller) -> [u8; 48]
     ensures { λ r. ⌜ r ≡ bodyOf c ⌝ }
 {
-    let mut next = [0; 48];
-    next = with_channel(next, 0, c.channels[0]);
-    next = with_channel(next, 9, c.channels[1]);
-    next = with_channel(next, 18, c.channels[2]);
-    next = with_channel(next, 27, c.channels[3]);
-    next[36] = c.command;
-    next[37] = c.tc;
-    next[38] = c.request;
-    next[39] = c.mask;
-    next[40] = c.temporary;
-    next[41] = c.flip_flop;
-    next[42] = c.pins;
-    next[43] = c.lowest;
-    next[44] = c.in_service;
-    next[45] = c.serving;
-    next[46] = c.latch_full;
-    next[47] = c.latch;
-    next
+    let first = channel_bytes(c.channels[0]);
+    let second = channel_bytes(c.channels[1]);
+    let third = channel_bytes(c.channels[2]);
+    let fourth = channel_bytes(c.channels[3]);
+    let fields = field_bytes(c);
+    let mut body = [0; 48];
+    store(&mut body, 0, &first);
+    store(&mut body, 9, &second);
+    store(&mut body, 18, &third);
+    store(&mut body, 27, &fourth);
+    store(&mut body, 36, &fields);
+    body
 }
 
 fn channel_at(b: &[u8], k: usize) -> Channel
