@@ -1,8 +1,8 @@
 -- A state and its body.
 -- Assumes nothing.
 use Prim.Native.Nat.{ℕ}
-use mathlib.Core.Path.{_≡_, refl, ap}
-use mathlib.Core.List.{List, [], _∷_, _++_}
+use mathlib.Core.Path.{_≡_, refl, sym, ap, _∙_}
+use mathlib.Core.List.{List, [], _∷_, _++_, append-nil}
 use native.Mathlib.Omega.{arith}
 use lib.ListN.{length, getD, replicate}
 use Rattle.am9517.specs.State.{blank, channel, make, field}
@@ -10,7 +10,7 @@ use Rattle.am9517.specs.declared.Channel.{Channel}
 use Rattle.am9517.specs.declared.Controller.{Controller}
 use Rattle.sheet.specs.Bytes.{placed, OfBytes}
 use Rattle.sheet.specs.Body.{channelBytes, fieldBytes, bodyOf, stateOf}
-use Rattle.sheet.proofs.BytesLaws.{word-whole, word-low, word-high, cells}
+use Rattle.sheet.proofs.BytesLaws.{word-whole, word-low, word-high, cells, cells-all}
 
 pub body-length : (s : Controller) → length (bodyOf s) ≡ 48
 unfolding bodyOf
@@ -42,3 +42,10 @@ state-of-body s rest h = simp word-whole (ap (λ (cs : List Channel). make cs (f
 pub body-of-state : (xs : List ℕ) → OfBytes xs → bodyOf (stateOf xs) ≡ cells 0 48 xs
 unfolding bodyOf stateOf
 body-of-state xs byte = simp (word-low, word-high, byte)
+
+-- a body by itself: told and written back
+pub body-told : (s : Controller) → length (s .channels) ≡ 4 → stateOf (bodyOf s) ≡ s
+body-told s h = ap stateOf (sym (append-nil (bodyOf s))) ∙ state-of-body s [] h
+
+pub body-kept : (xs : List ℕ) → OfBytes xs → length xs ≡ 48 → bodyOf (stateOf xs) ≡ xs
+body-kept xs byte size = body-of-state xs byte ∙ sym (cells-all 48 0 xs size)

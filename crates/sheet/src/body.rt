@@ -6,7 +6,7 @@ use am9517::Controller;
 use words::bytes::high_byte;
 use words::bytes::low_byte;
 ghost use mathlib.Core.Path.{_≡_};
-ghost use Prim.Native.Nat.{_+_, _<_, _≤_};
+ghost use Prim.Native.Nat.{_+_, _≤_};
 ghost use lib.ListN.{length};
 ghost use Rattle.sheet.specs.Body.{channelBytes, channelAt, fieldBytes, bodyOf, stateOf};
 

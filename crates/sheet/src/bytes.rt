@@ -1,7 +1,7 @@
 // Bytes of a slice: a word read, a sum taken, a piece stored.
 use words::bytes::word_of;
 ghost use mathlib.Core.Path.{_≡_};
-ghost use Prim.Native.Nat.{_+_, _*_, _<_, _≤_};
+ghost use Prim.Native.Nat.{_+_, _<_, _≤_};
 ghost use lib.ListN.{length, take};
 ghost use Rattle.sheet.specs.Bytes.{word, total, placed};
 

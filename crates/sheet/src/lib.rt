@@ -7,7 +7,6 @@ use am9517::Controller;
 use am9517::Outcome;
 use words::choice::when;
 ghost use mathlib.Core.Path.{_≡_};
-ghost use lib.ListN.{length};
 ghost use Rattle.am9517.specs.Refusals.{refusal};
 ghost use Rattle.sheet.specs.Sheet.{stored, sheetWriteGrounds, sheetWriteOf, sheetReadGrounds, sheetReadOf};
 

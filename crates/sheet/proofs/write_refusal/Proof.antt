@@ -6,7 +6,7 @@ use Rattle.sheet.proofs.write_refusal.Tie as tie
 
 returns : tie.Need-returns
 unfolding refusal first
-returns c = cc
+returns c = simp (c .when2 .ensures, c .before .valid .ensures, c .before .before .when .ensures)
 
 pub write-refusal-spec : {M : Type 1} → statement M
 write-refusal-spec = tie.close (tie.spec (search needs) (search needs) (search needs) returns)
