@@ -1,3 +1,4 @@
 -- Laws about the definitions of specs/, for the proofs here and in the crates above.
 pub mod StateLaws
+pub mod KeepLaws
 pub mod RefusalLaws

@@ -9,5 +9,6 @@ pub mod ServiceLaws
 pub mod CopyLaws
 pub mod TripLaws
 pub mod AnswerLaws
+pub mod KeepLaws
 pub mod StateLaws
 pub mod PieceLaws

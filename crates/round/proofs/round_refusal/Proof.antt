@@ -1,0 +1,14 @@
+use borrow.Author.Needs.{needs}
+use Rattle.am9517.specs.Refusals.{refusal}
+use Rattle.words.specs.Grounds.{first}
+use Rattle.round.proofs.round_refusal.Statement.{statement}
+use Rattle.round.proofs.round_refusal.Tie as tie
+
+returns : tie.Need-returns
+unfolding refusal first
+returns c = cc
+
+pub round-refusal-spec : {M : Type 1} → statement M
+round-refusal-spec =
+    tie.close
+    (tie.spec (search needs) (search needs) (search needs) (search needs) (search needs) returns)

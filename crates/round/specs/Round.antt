@@ -1,0 +1,83 @@
+-- "A round begins up to k services (0 to 4,096), grant then run, limit 65,536, no EOP."
+use Prim.Native.Nat.{ℕ, zero, suc, _+_}
+use mathlib.Core.Bool.{Bool, true, false, not}
+use mathlib.Core.List.{List, [], _∷_, _++_}
+use lib.Dec.{eqb}
+use lib.ListN.{getD, set, take, drop}
+use Rattle.words.specs.Grounds.{_if_, first}
+use Rattle.am9517.specs.Serving.{picked, granted}
+use Rattle.am9517.specs.declared.Controller.{Controller}
+use Rattle.service.specs.declared.Reason.{Reason}
+use Rattle.service.specs.declared.Reason.the-variants.{Ended, Dropped, Cascade, Limit, Short}
+use Rattle.service.specs.World.{Stop, startOf}
+use Rattle.service.specs.Run.{runOf}
+use Rattle.round.specs.declared.RoundAnswer.{RoundAnswer}
+use Rattle.round.specs.declared.RoundAnswer.the-variants.{Done, Quiet, Stopped}
+
+-- What a round changes, and what it counts: services begun per channel, and the totals.
+pub record Course : Type 0 where
+  pub controller : Controller
+  pub memory : List ℕ
+  pub room : List ℕ
+  pub services : List ℕ
+  pub transfers : ℕ
+  pub used : ℕ
+  pub written : ℕ
+  pub states : ℕ
+
+-- where a round begins
+abbrev pub beginning : Controller → List ℕ → List ℕ → Course
+beginning c m r =
+    record { controller = c; memory = m; room = r; services = 0 ∷ 0 ∷ 0 ∷ 0 ∷ []; transfers = 0; used = 0; written = 0; states = 0 }
+
+-- nobody is entitled
+abbrev pub nobody : Controller → Bool
+nobody c = eqb (picked c) 4
+
+-- "The device bytes not yet used are handed on to the next run, and so is the room behind the last byte written."
+unfoldable pub served : Course → List ℕ → Stop
+served w d =
+    let c = w .controller in
+    runOf 65536 0 (drop (w .used) d) (startOf (granted c (picked c)) (w .memory) (drop (w .written) (w .room)))
+
+-- the course after that service
+unfoldable pub counted : Course → ℕ → Stop → Course
+counted w n s =
+    let v = s .world in
+    record {
+      controller = v .controller;
+      memory = v .memory;
+      room = take (w .written) (w .room) ++ v .room;
+      services = set (w .services) n (getD (w .services) n 0 + 1);
+      transfers = w .transfers + v .transfers;
+      used = w .used + v .used;
+      written = w .written + v .written;
+      states = w .states + v .states;
+    }
+
+abbrev pub begun : Course → List ℕ → Course
+begun w d = counted w (picked (w .controller)) (served w d)
+
+abbrev pub isEnded : Reason → Bool
+isEnded Ended = true
+isEnded Dropped = false
+isEnded Cascade = false
+isEnded Limit = false
+isEnded Short = false
+
+-- where a round stops, and why
+pub record Close : Type 0 where
+  pub course : Course
+  pub answer : RoundAnswer
+
+abbrev pub close : Course → RoundAnswer → Close
+close w a = record { course = w; answer = a }
+
+-- with left more services to begin: "It stops, in this order after each run: not "ended" (its reason); k begun ("done");
+-- nobody entitled ("quiet"). Before the first, k = 0 is "done" and comes before quiet."
+unfoldable pub roundOf : ℕ → List ℕ → Course → Close
+roundOf zero d w = close w Done
+roundOf (suc left) d w =
+    first (close w Quiet if nobody (w .controller) ∷ [])
+    (first (close (begun w d) (Stopped (served w d .reason)) if not (isEnded (served w d .reason)) ∷ [])
+    (roundOf left d (begun w d)))

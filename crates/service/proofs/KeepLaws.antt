@@ -1,0 +1,233 @@
+-- What every run keeps: one induction, and what follows of lengths, counts, ranges, the lowest channel and the end of a service.
+-- Assumes nothing.
+use Prim.Native.Nat.{ℕ, zero, suc, _+_, _-_, _*_, _≤_, _<_}
+use mathlib.Core.Path.{_≡_, refl, sym, ap, _∙_}
+use mathlib.Core.Bool.{Bool, true, false, not, _&&_, _||_}
+use mathlib.Core.List.{List, [], _∷_}
+use native.Mathlib.Omega.{arith}
+use lib.Dec.{eqb, leb}
+use lib.ListN.{length, getD, set, length-set}
+use borrow.Author.Tests.{eq-eqb, ne-eqb, eqb-true, eqb-false, leb-false}
+use Rattle.words.specs.Choice.{when}
+use Rattle.words.specs.Grounds.{Ground, first}
+use Rattle.words.specs.Bits.{withBit}
+use Rattle.words.proofs.BitLaws.{four-kept}
+use Rattle.words.proofs.ChoiceLaws.{when-both, when-each, when-le, never}
+use Rattle.am9517.specs.State.{channel, withChannel, put, ended, blank, Field, Tc, Request, Mask}
+use Rattle.am9517.specs.Modes.{compressed, autoinitialize, serviceOf}
+use Rattle.am9517.specs.declared.Channel.{Channel}
+use Rattle.am9517.specs.declared.Controller.{Controller}
+use Rattle.am9517.proofs.StateLaws.{Ranges}
+use Rattle.service.proofs.WayLaws.{neither-left, neither-right}
+use Rattle.am9517.proofs.KeepLaws.{Kept, kept-same, kept-open, kept-ended, modes-kept}
+use Rattle.service.specs.declared.Reason.{Reason}
+use Rattle.service.specs.declared.Reason.the-variants.{Ended, Dropped, Cascade, Limit, Short}
+use Rattle.service.specs.World.{World, startOf, withController, copies, server, Stop, stop}
+use Rattle.service.specs.Stops.{dropped, short, stops}
+use Rattle.service.specs.States.{plain, latches, cost}
+use Rattle.service.specs.Transfer.{writes, reads, moved}
+use Rattle.service.specs.Copy.{source, copied}
+use Rattle.service.specs.Ends.{restored, finished, over, single, reachesTc, ends}
+use Rattle.service.specs.Run.{transferred, runOf}
+
+-- the device is not short, where that matters
+abbrev pub Supplied : World → List ℕ → Type 0
+Supplied w d = copies (w .controller) ≡ false → short w d ≡ false
+
+limit-not : Limit ≡ Ended → ⊥
+limit-not e = let z : _≡_ {A = ℕ} 0 1 = cc in omega arith
+
+cascade-not : Cascade ≡ Ended → ⊥
+cascade-not e = let z : _≡_ {A = ℕ} 0 1 = cc in omega arith
+
+short-not : Short ≡ Ended → ⊥
+short-not e = let z : _≡_ {A = ℕ} 0 1 = cc in omega arith
+
+dropped-not : Dropped ≡ Ended → ⊥
+dropped-not e = let z : _≡_ {A = ℕ} 0 1 = cc in omega arith
+
+-- Whatever holds of worlds along a run and comes through each way to stop holds where it stops.
+module _ (P : ℕ → World → Type 0) (Q : Stop → Type 0) (eop : ℕ) (d : List ℕ)
+    (step : (left : ℕ) (w : World) → P (suc left) w → Supplied w d → P left (transferred w d))
+    (halts : (left : ℕ) (w : World) (e : Reason) → (e ≡ Ended → ⊥) → P left w → Q (stop w e))
+    (drops : (left : ℕ) (w : World) → P left w → Q (stop (withController w (ended (w .controller))) Dropped))
+    (meets : (left : ℕ) (w : World) (tc : Bool) → P left w → Q (stop (withController w (over (w .controller) tc)) Ended))
+    (parts : (left : ℕ) (w : World) → P left w → Q (stop (withController w (ended (w .controller))) Ended)) where
+  through-stops : (left : ℕ) (w : World) (x : Stop) → P left w → (Supplied w d → Q x) → Q (first (stops w d left) x)
+  unfolding stops first
+  through-stops left w x p g =
+      when-each (λ (gs : List (Ground Stop)). Q (first gs x)) (copies (w .controller))
+      (λ ic. when-both Q (eqb left 0) (halts left w Limit limit-not p) (g (λ nc. never (sym ic ∙ nc))))
+      (λ nc. when-both Q (dropped (w .controller)) (drops left w p)
+      (when-both Q (eqb (serviceOf (server (w .controller) .mode)) 3) (halts left w Cascade cascade-not p)
+      (when-both Q (eqb left 0) (halts left w Limit limit-not p) (when-each Q (short w d) (λ s. halts left w Short short-not p) (λ s. g (λ z. s))))))
+
+  through-ends : (left : ℕ) (c : Controller) (w : World) (x : Stop) → P left w → Q x → Q (first (ends c w eop) x)
+  unfolding first
+  through-ends left c w x p g =
+      when-both Q (reachesTc c || eqb (w .transfers) eop) (meets left w (reachesTc c) p) (when-both Q (single c) (parts left w p) g)
+
+  pub run-ind : (left : ℕ) (w : World) → P left w → Q (runOf left eop d w)
+  unfolding runOf
+  run-ind zero w p = through-stops zero w (stop w Limit) p (λ s. halts zero w Limit limit-not p)
+  run-ind (suc left) w p =
+      through-stops (suc left) w _ p (λ s. through-ends left (w .controller) (transferred w d) _ (step left w p s) (run-ind left (transferred w d) (step left w p s)))
+
+-- Lengths stay, and the counts have their bounds.
+pub record Counted (memory room bytes most : ℕ) (w : World) : Type 0 where
+  pub memory-length : length (w .memory) ≡ memory
+  pub room-length : length (w .room) ≡ room
+  pub used : w .used ≤ bytes
+  pub written : w .written ≤ room
+  pub transfers : w .transfers ≤ most
+  pub states : w .states ≤ 8 * w .transfers
+
+cost-most : (c : Controller) (a : ℕ) → cost c a ≤ 8
+unfolding cost plain
+cost-most c a =
+    let p : when (compressed c) 2 3 ≤ 3 = when-both (λ (x : ℕ). x ≤ 3) (compressed c) (omega arith) (omega arith) in
+    omega (arith, when-le (latches c a) 1)
+
+-- one more by a test stays within a bound where the test leaves room
+one-within : (t : Bool) (x n : ℕ) → x ≤ n → (t ≡ true → x < n) → x + when t 1 0 ≤ n
+unfolding when
+one-within true x n h g = omega (arith, g refl)
+one-within false x n h g = omega arith
+
+or-false : (b : Bool) → b ≡ false → b || false ≡ false
+or-false b e = rw e
+
+supplied-bytes : (t : Bool) (a b : ℕ) (rest : Bool) → t && leb b a || rest ≡ false → t ≡ true → a < b
+supplied-bytes true a b rest e h = leb-false b a (neither-left (leb b a) rest e)
+supplied-bytes false a b rest e h = never (sym h)
+
+module _ (M R : ℕ) (d : List ℕ) where
+  -- with left more transfers allowed, of most in all
+  abbrev Within : ℕ → ℕ → World → Type 0
+  Within most left w = Counted M R (length d) (most - left) w × (left ≤ most)
+
+  moved-counted : (most left : ℕ) (w : World) → Within most (suc left) w → short w d ≡ false → Counted M R (length d) (most - left) (moved w d)
+  unfolding moved short
+  moved-counted most left w p s =
+      let c = p .0 in
+      let ch = server (w .controller) in
+      let bytes = supplied-bytes (writes ch) (w .used) (length d) _ s in
+      let space = supplied-bytes (reads ch) (w .written) (length (w .room)) false (or-false _ (neither-right (writes ch && leb (length d) (w .used)) _ s)) in
+      record {
+        memory-length = when-both (λ (l : List ℕ). length l ≡ M) (writes ch) (simp length-set (c .memory-length)) (c .memory-length);
+        room-length = when-both (λ (l : List ℕ). length l ≡ R) (reads ch) (simp length-set (c .room-length)) (c .room-length);
+        used = one-within (writes ch) (w .used) (length d) (c .used) bytes;
+        written = one-within (reads ch) (w .written) R (c .written) (λ e. omega (arith, space e, c .room-length));
+        transfers = omega (arith, c .transfers, p .1);
+        states = omega (arith, c .states, cost-most (w .controller) (ch .address));
+      }
+
+  copied-counted : (most left : ℕ) (w : World) → Within most (suc left) w → Counted M R (length d) (most - left) (copied w)
+  unfolding copied
+  copied-counted most left w p =
+      let c = p .0 in
+      record {
+        memory-length = simp length-set (c .memory-length);
+        room-length = c .room-length;
+        used = c .used;
+        written = c .written;
+        transfers = omega (arith, c .transfers, p .1);
+        states = omega (arith, c .states);
+      }
+
+  step-counted : (most left : ℕ) (w : World) → Within most (suc left) w → Supplied w d → Within most left (transferred w d)
+  unfolding transferred
+  step-counted most left w p s =
+      (when-each (λ (x : World). Counted M R (length d) (most - left) x) (copies (w .controller)) (λ ic. copied-counted most left w p) (λ nc. moved-counted most left w p (s nc)), omega (arith, p .1))
+
+  counted-on : (most left : ℕ) (w : World) (c : Controller) → Counted M R (length d) (most - left) w → Counted M R (length d) most (withController w c)
+  counted-on most left w c p =
+      record { memory-length = p .memory-length; room-length = p .room-length; used = p .used; written = p .written; transfers = omega (arith, p .transfers); states = p .states }
+
+  -- What a run of most transfers counts at the most.
+  pub run-counted : (most eop : ℕ) (w : World) → Counted M R (length d) 0 w → Counted M R (length d) most (runOf most eop d w .world)
+  run-counted most eop w p =
+      run-ind (Within most) (λ (s : Stop). Counted M R (length d) most (s .world)) eop d (step-counted most)
+      (λ left x e n q. counted-on most left x (x .controller) (q .0)) (λ left x q. counted-on most left x _ (q .0)) (λ left x tc q. counted-on most left x _ (q .0)) (λ left x q. counted-on most left x _ (q .0))
+      most w (record { memory-length = p .memory-length; room-length = p .room-length; used = p .used; written = p .written; transfers = omega (arith, p .transfers); states = p .states }, omega arith)
+
+-- A run keeps the ranges and the lowest channel, and leaves no service open where it says "ended".
+pub record Sound (l : ℕ) (c : Controller) : Type 0 where
+  pub ranges : Ranges c
+  pub busy : c .«in_service» ≡ 1
+  pub lowest : c .lowest ≡ l
+
+pub record Left (l : ℕ) (s : Stop) : Type 0 where
+  pub ranges : Ranges (s .world .controller)
+  pub idle : s .reason ≡ Ended → s .world .controller .«in_service» ≡ 0
+  pub lowest : s .world .controller .lowest ≡ l
+
+moved-sound : (l : ℕ) (w : World) (d : List ℕ) → Sound l (w .controller) → Sound l (moved w d .controller)
+unfolding moved
+moved-sound l w d p =
+    let c = w .controller in
+    let r = p .ranges in
+    record {
+      ranges = kept-open c r _ (record { mode = λ k. modes-kept (c .channels) (c .serving) k _ refl; pins = refl; flipFlop = refl; lowest = refl; tc = r .fields .tc; request = r .fields .request; mask = r .fields .mask }) (p .busy) (omega arith) (λ e. absurd (omega arith)) (r .fields .serving);
+      busy = p .busy;
+      lowest = p .lowest;
+    }
+
+copied-sound : (l : ℕ) (w : World) → Sound l (w .controller) → Sound l (copied w .controller)
+unfolding copied
+copied-sound l w p =
+    let c = w .controller in
+    let r = p .ranges in
+    record {
+      ranges = kept-open c r _ (record { mode = λ k. modes-kept (set (c .channels) 0 (source c)) 1 k _ (sym (modes-kept (c .channels) 0 1 (source c) refl)) ∙ modes-kept (c .channels) 0 k (source c) refl; pins = refl; flipFlop = refl; lowest = refl; tc = r .fields .tc; request = r .fields .request; mask = r .fields .mask }) (p .busy) (r .fields .latchFull) (r .latch) (r .fields .serving);
+      busy = p .busy;
+      lowest = p .lowest;
+    }
+
+transferred-sound : (l : ℕ) (w : World) (d : List ℕ) → Sound l (w .controller) → Sound l (transferred w d .controller)
+unfolding transferred
+transferred-sound l w d p = when-both (λ (x : World). Sound l (x .controller)) (copies (w .controller)) (copied-sound l w p) (moved-sound l w d p)
+
+finished-ranges : (c : Controller) (n : ℕ) (tc : Bool) → n < 4 → Ranges c → Ranges (finished c n tc)
+unfolding finished
+finished-ranges c n tc h r =
+    let t : when tc (withBit (c .tc) n true) (c .tc) ≤ 15 = when-both (λ (x : ℕ). x ≤ 15) tc (four-kept (c .tc) n true (r .fields .tc) h) (r .fields .tc) in
+    let q : withBit (c .request) n false ≤ 15 = four-kept (c .request) n false (r .fields .request) h in
+    let f : Controller = put (put c Tc (when tc (withBit (c .tc) n true) (c .tc))) Request (withBit (c .request) n false) in
+    when-both (λ (x : Controller). Ranges (ended x)) (autoinitialize (channel c n .mode))
+    (kept-ended c r (withChannel f n (restored (channel c n))) (record { mode = λ k. modes-kept (c .channels) n k _ refl; pins = refl; flipFlop = refl; lowest = refl; tc = t; request = q; mask = r .fields .mask }))
+    (kept-ended c r (put f Mask (withBit (c .mask) n true)) (record { mode = λ k. refl; pins = refl; flipFlop = refl; lowest = refl; tc = t; request = q; mask = four-kept (c .mask) n true (r .fields .mask) h }))
+
+finished-lowest : (c : Controller) (n : ℕ) (tc : Bool) → finished c n tc .lowest ≡ c .lowest
+unfolding finished
+finished-lowest c n tc = when-both (λ (x : Controller). ended x .lowest ≡ c .lowest) (autoinitialize (channel c n .mode)) refl refl
+
+finished-idle : (c : Controller) (n : ℕ) (tc : Bool) → finished c n tc .«in_service» ≡ 0
+unfolding finished
+finished-idle c n tc = refl
+
+over-left : (l : ℕ) (w : World) (tc : Bool) → Sound l (w .controller) → Left l (stop (withController w (over (w .controller) tc)) Ended)
+unfolding over
+over-left l w tc p =
+    let c = w .controller in
+    let r = p .ranges in
+    let q = put c Request (withBit (c .request) 0 false) in
+    let f = r .fields in
+    let rq : Ranges q = kept-open c r q (record { mode = λ k. refl; pins = refl; flipFlop = refl; lowest = refl; tc = f .tc; request = four-kept (c .request) 0 false (f .request) (omega arith); mask = f .mask }) (p .busy) (f .latchFull) (r .latch) (f .serving) in
+    when-both (λ (x : Controller). Left l (stop (withController w x) Ended)) (copies c)
+    (record { ranges = finished-ranges q 1 tc (omega arith) rq; idle = λ e. finished-idle q 1 tc; lowest = finished-lowest q 1 tc ∙ p .lowest })
+    (record { ranges = finished-ranges c (c .serving) tc (omega (arith, f .serving)) r; idle = λ e. finished-idle c (c .serving) tc; lowest = finished-lowest c (c .serving) tc ∙ p .lowest })
+
+ended-left : (l : ℕ) (w : World) (e : Reason) → Sound l (w .controller) → Left l (stop (withController w (ended (w .controller))) e)
+ended-left l w e p =
+    record { ranges = kept-ended (w .controller) (p .ranges) (w .controller) (kept-same (w .controller) (p .ranges)); idle = λ z. refl; lowest = p .lowest }
+
+pub run-left : (left eop : ℕ) (d : List ℕ) (w : World) → Ranges (w .controller) → w .controller .«in_service» ≡ 1 → Left (w .controller .lowest) (runOf left eop d w)
+run-left left eop d w r b =
+    let l = w .controller .lowest in
+    run-ind (λ (n : ℕ) (x : World). Sound l (x .controller)) (Left l) eop d step
+    (λ n x e not p. record { ranges = p .ranges; idle = λ z. absurd (not z); lowest = p .lowest }) (λ n x p. ended-left l x Dropped p) (λ n x tc p. over-left l x tc p) (λ n x p. ended-left l x Ended p)
+    left w (record { ranges = r; busy = b; lowest = refl })
+  where
+    step : (n : ℕ) (x : World) → Sound (w .controller .lowest) (x .controller) → Supplied x d → Sound (w .controller .lowest) (transferred x d .controller)
+    step n x p s = transferred-sound (w .controller .lowest) x d p
