@@ -1,20 +1,17 @@
 -- What keeps a state in its ranges.
 -- Assumes nothing.
 use Prim.Native.Nat.{ℕ, zero, suc, _≤_, _<_}
-use mathlib.Core.Path.{_≡_, refl, sym, ap, _∙_}
-use mathlib.Core.Bool.{Bool, true, false}
+use mathlib.Core.Path.{_≡_, refl, ap, _∙_}
 use mathlib.Core.List.{List, [], _∷_}
 use native.Mathlib.Omega.{arith}
 use lib.ListN.{getD, set}
-use Rattle.words.specs.Bits.{withBit}
-use Rattle.words.proofs.BitLaws.{four-kept}
-use Rattle.words.proofs.ChoiceLaws.{when-both}
-use Rattle.am9517.specs.State.{blank, channel, withChannel, put, ended, Field, Tc, Request, Mask, Temporary}
+use Rattle.am9517.specs.State.{blank, channel, put, ended}
 use Rattle.am9517.specs.Modes.{rotating}
 use Rattle.am9517.specs.Ranges.{modeValid}
 use Rattle.am9517.specs.Serving.{granted}
 use Rattle.am9517.specs.declared.Channel.{Channel}
 use Rattle.am9517.specs.declared.Controller.{Controller}
+use Rattle.words.proofs.ChoiceLaws.{when-both}
 use Rattle.am9517.proofs.StateLaws.{Fields, Ranges}
 
 -- a channel put with its own mode leaves every mode

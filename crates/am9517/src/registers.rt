@@ -109,10 +109,10 @@ impl Controller {
         if reg < 8 {
             return self.port_read(reg);
         }
-        if reg == 8 {
-            return self.status();
+        match reg {
+            8 => self.status(),
+            _ => self.temporary,
         }
-        self.temporary
     }
 
     pub(crate) fn after_read(self, reg: u32) -> Controller

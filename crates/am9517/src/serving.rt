@@ -44,8 +44,8 @@ impl Controller {
         requires { ⌜ n < 4 ⌝ }
         ensures { λ r. ⌜ r ≡ entitled self n ⌝ }
     {
-        let line = self.active(n) & (bit(self.mask, n) == 0);
-        (self.command / 4 % 2 != 1) & (line | self.counted(n))
+        let unmasked = bit(self.mask, n) == 0;
+        (self.command / 4 % 2 != 1) & (self.active(n) & unmasked | self.counted(n))
     }
 
     // The entitled channels, as four bits.

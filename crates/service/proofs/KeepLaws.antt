@@ -1,34 +1,33 @@
 -- What every run keeps: one induction, and what follows of lengths, counts, ranges, the lowest channel and the end of a service.
 -- Assumes nothing.
 use Prim.Native.Nat.{ℕ, zero, suc, _+_, _-_, _*_, _≤_, _<_}
-use mathlib.Core.Path.{_≡_, refl, sym, ap, _∙_}
+use mathlib.Core.Path.{_≡_, refl, sym, _∙_}
 use mathlib.Core.Bool.{Bool, true, false, not, _&&_, _||_}
-use mathlib.Core.List.{List, [], _∷_}
+use mathlib.Core.List.{List}
 use native.Mathlib.Omega.{arith}
 use lib.Dec.{eqb, leb}
-use lib.ListN.{length, getD, set, length-set}
-use borrow.Author.Tests.{eq-eqb, ne-eqb, eqb-true, eqb-false, leb-false}
+use lib.ListN.{length, set, length-set}
+use borrow.Author.Tests.{leb-false}
 use Rattle.words.specs.Choice.{when}
 use Rattle.words.specs.Grounds.{Ground, first}
 use Rattle.words.specs.Bits.{withBit}
-use Rattle.words.proofs.BitLaws.{four-kept}
-use Rattle.words.proofs.ChoiceLaws.{when-both, when-each, when-le, never}
-use Rattle.am9517.specs.State.{channel, withChannel, put, ended, blank, Field, Tc, Request, Mask}
+use Rattle.am9517.specs.State.{channel, withChannel, put, ended, Tc, Request, Mask}
 use Rattle.am9517.specs.Modes.{compressed, autoinitialize, serviceOf}
-use Rattle.am9517.specs.declared.Channel.{Channel}
 use Rattle.am9517.specs.declared.Controller.{Controller}
-use Rattle.am9517.proofs.StateLaws.{Ranges}
-use Rattle.service.proofs.WayLaws.{neither-left, neither-right}
-use Rattle.am9517.proofs.KeepLaws.{Kept, kept-same, kept-open, kept-ended, modes-kept}
 use Rattle.service.specs.declared.Reason.{Reason}
 use Rattle.service.specs.declared.Reason.the-variants.{Ended, Dropped, Cascade, Limit, Short}
-use Rattle.service.specs.World.{World, startOf, withController, copies, server, Stop, stop}
+use Rattle.service.specs.World.{World, withController, copies, server, Stop, stop}
 use Rattle.service.specs.Stops.{dropped, short, stops}
 use Rattle.service.specs.States.{plain, latches, cost}
 use Rattle.service.specs.Transfer.{writes, reads, moved}
 use Rattle.service.specs.Copy.{source, copied}
 use Rattle.service.specs.Ends.{restored, finished, over, single, reachesTc, ends}
 use Rattle.service.specs.Run.{transferred, runOf}
+use Rattle.words.proofs.BitLaws.{four-kept}
+use Rattle.words.proofs.ChoiceLaws.{when-both, when-each, when-le, never}
+use Rattle.am9517.proofs.StateLaws.{Ranges}
+use Rattle.service.proofs.WayLaws.{neither-left, neither-right}
+use Rattle.am9517.proofs.KeepLaws.{kept-same, kept-open, kept-ended, modes-kept}
 
 -- the device is not short, where that matters
 abbrev pub Supplied : World → List ℕ → Type 0

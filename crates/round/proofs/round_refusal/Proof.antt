@@ -6,7 +6,7 @@ use Rattle.round.proofs.round_refusal.Tie as tie
 
 returns : tie.Need-returns
 unfolding refusal first
-returns c = cc
+returns c = simp (c .when4 .ensures, c .before .before .when3 .ensures, c .before .before .before .when2 .ensures, c .before .before .before .before .when .ensures, c .before .valid .ensures)
 
 pub round-refusal-spec : {M : Type 1} → statement M
 round-refusal-spec =

@@ -6,7 +6,7 @@ use Rattle.service.proofs.run_refusal.Tie as tie
 
 returns : tie.Need-returns
 unfolding refusal first
-returns c = cc
+returns c = simp (c .when3 .ensures, c .before .before .when2 .ensures, c .before .before .before .when .ensures, c .before .valid .ensures)
 
 pub run-refusal-spec : {M : Type 1} → statement M
 run-refusal-spec =

@@ -5,7 +5,7 @@ use Rattle.am9517.proofs.Controller.counted.Tie as tie
 
 returns : tie.Need-returns
 unfolding counted
-returns c = cc
+returns c = simp (c .bit .ensures)
 
 pub counted-spec : {M : Type 1} → statement M
 counted-spec = tie.close (tie.spec (search needs) (search needs) (search needs) returns)

@@ -6,7 +6,7 @@ use Rattle.am9517.proofs.Controller.grant_refusal.Tie as tie
 
 returns : tie.Need-returns
 unfolding refusal first
-returns c = cc
+returns c = simp (c .when3 .ensures, c .before .before .when2 .ensures, c .before .before .before .before .when .ensures, c .before .valid .ensures, c .before .before .before .before .before .pre)
 
 pub grant-refusal-spec : {M : Type 1} → statement M
 grant-refusal-spec =

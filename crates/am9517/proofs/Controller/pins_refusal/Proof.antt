@@ -6,7 +6,7 @@ use Rattle.am9517.proofs.Controller.pins_refusal.Tie as tie
 
 returns : tie.Need-returns
 unfolding refusal first
-returns c = cc
+returns c = simp (c .when2 .ensures, c .before .before .when .ensures, c .before .valid .ensures)
 
 pub pins-refusal-spec : {M : Type 1} → statement M
 pins-refusal-spec = tie.close (tie.spec (search needs) (search needs) (search needs) returns)

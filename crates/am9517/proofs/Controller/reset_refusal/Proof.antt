@@ -6,7 +6,7 @@ use Rattle.am9517.proofs.Controller.reset_refusal.Tie as tie
 
 returns : tie.Need-returns
 unfolding refusal first
-returns c = cc
+returns c = simp (c .when .ensures, c .before .valid .ensures)
 
 pub reset-refusal-spec : {M : Type 1} → statement M
 reset-refusal-spec = tie.close (tie.spec (search needs) (search needs) returns)

@@ -6,7 +6,7 @@ use Rattle.am9517.proofs.Controller.valid.Tie as tie
 
 returns : tie.Need-returns
 unfolding valid _and_
-returns c = cc
+returns c = simp (c .before .before .modes-valid .ensures, c .before .fields-valid .ensures, c .service-valid .ensures)
 
 pub valid-spec : {M : Type 1} → statement M
 valid-spec =

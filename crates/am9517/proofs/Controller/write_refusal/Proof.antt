@@ -6,7 +6,7 @@ use Rattle.am9517.proofs.Controller.write_refusal.Tie as tie
 
 returns : tie.Need-returns
 unfolding refusal first
-returns c = cc
+returns c = simp (c .when5 .ensures, c .before .before .when4 .ensures, c .before .before .before .when3 .ensures, c .before .before .before .before .before .when2 .ensures, c .before .before .before .before .before .before .when .ensures, c .before .before .before .before .before .before .before .mode-refused .ensures, c .before .valid .ensures)
 
 pub write-refusal-spec : {M : Type 1} → statement M
 write-refusal-spec =

@@ -6,7 +6,7 @@ use Rattle.am9517.proofs.ranges.mode_valid.Tie as tie
 
 returns : tie.Need-returns
 unfolding modeValid _and_
-returns c = cc
+returns c = simp (c .mode-refused .ensures)
 
 pub mode-valid-spec : {M : Type 1} → statement M
 mode-valid-spec = tie.close (tie.spec (search needs) returns)

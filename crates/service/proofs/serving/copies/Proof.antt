@@ -5,7 +5,7 @@ use Rattle.service.proofs.serving.copies.Tie as tie
 
 returns : tie.Need-returns
 unfolding copies
-returns c = cc
+returns c = simp (c .before .bit .ensures)
 
 pub copies-spec : {M : Type 1} → statement M
 copies-spec = tie.close (tie.spec (search needs) returns)

@@ -5,7 +5,7 @@ use Rattle.service.proofs.serving.dropped.Tie as tie
 
 returns : tie.Need-returns
 unfolding dropped
-returns c = cc
+returns c = simp (c .active .ensures)
 
 pub dropped-spec : {M : Type 1} → statement M
 dropped-spec =

@@ -5,7 +5,7 @@ use Rattle.service.proofs.stretch.latches.Tie as tie
 
 returns : tie.Need-returns
 unfolding latches
-returns c = cc
+returns c = simp (c .before .high-byte .ensures)
 
 pub latches-spec : {M : Type 1} → statement M
 latches-spec = tie.close (tie.spec (search needs) returns)
