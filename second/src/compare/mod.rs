@@ -1,0 +1,15 @@
+//! Scripts written from a seed, played against another program, and compared answer by answer.
+
+pub mod comparison;
+pub mod damage;
+pub mod ending;
+pub mod forms;
+pub mod program;
+pub mod random;
+pub mod report;
+pub mod scenes;
+
+pub mod shrink;
+pub mod sides;
+pub mod values;
+pub mod writer;

@@ -1,0 +1,15 @@
+//! A second, independent model of one Am9517A, made from document 01 and the data sheets alone.
+//!
+//! The rules are in modules by subject: [`state`], [`registers`], [`serving`], [`run`], [`round`]
+//! and [`sheet`]. [`protocol`] is the line protocol over them. [`faults`] is a set of deliberate
+//! faults, all off unless asked for, and [`compare`] plays scripts against another program.
+
+pub mod compare;
+pub mod faults;
+pub mod protocol;
+pub mod registers;
+pub mod round;
+pub mod run;
+pub mod serving;
+pub mod sheet;
+pub mod state;

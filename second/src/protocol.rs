@@ -1,0 +1,332 @@
+//! The line protocol: one console, which answers each command line with one line.
+
+use crate::round::{RoundStop, RoundTally};
+use crate::run::{Stop, Tally};
+use crate::state::{Controller, Refusal, BODY_LENGTH};
+use std::collections::VecDeque;
+use std::io::{self, BufRead, Write};
+
+/// "a memory array of 65,537 bytes"
+pub const ARRAY_LENGTH: usize = 65_537;
+/// "of which the first `memory` bytes are lent to runs and rounds (65,536 at the start)"
+pub const LENT_AT_START: usize = 65_536;
+/// The most bytes in the queue, in the room, and in a sheet's slice.
+pub const MOST_BYTES: usize = 70_000;
+/// "a slice of N bytes 0xEE"
+const SLICE_BYTE: u8 = 0xEE;
+
+pub struct Console {
+    pub controller: Controller,
+    pub memory: Vec<u8>,
+    pub lent: usize,
+    pub queue: VecDeque<u8>,
+    pub room: Vec<u8>,
+    /// The room's write position.
+    pub position: usize,
+}
+
+/// A command that changes nothing.
+enum Fail {
+    Error,
+    Refused(Refusal),
+}
+
+impl From<Refusal> for Fail {
+    fn from(refusal: Refusal) -> Fail {
+        Fail::Refused(refusal)
+    }
+}
+
+type Answer = Result<String, Fail>;
+
+impl Default for Console {
+    fn default() -> Console {
+        Console::new()
+    }
+}
+
+impl Console {
+    pub fn new() -> Console {
+        Console {
+            controller: Controller::fresh(),
+            memory: vec![0; ARRAY_LENGTH],
+            lent: LENT_AT_START,
+            queue: VecDeque::new(),
+            room: Vec::new(),
+            position: 0,
+        }
+    }
+
+    /// The answer to one line, with or without its newline; None for a blank line, which gets none.
+    pub fn answer(&mut self, line: &[u8]) -> Option<String> {
+        let words = words_of(line);
+        if words.is_empty() {
+            return None;
+        }
+        Some(match self.obey(&words) {
+            Ok(answer) => answer,
+            Err(Fail::Error) => "error".to_string(),
+            Err(Fail::Refused(refusal)) => format!("refused {}", refusal.number()),
+        })
+    }
+
+    fn obey(&mut self, words: &[&[u8]]) -> Answer {
+        match words {
+            [b"state"] => Ok(format!("state {}", to_hex(&self.controller.body()))),
+            [b"state", hex] => self.take_state(&bytes(hex)?),
+            [b"fresh"] => self.take(Controller::fresh()),
+            [b"write", register, value] => self.write(number32(register)?, byte(value)?),
+            [b"read", register] => self.read(number32(register)?),
+            [b"pins", levels] => self.pins(number32(levels)?),
+            [b"reset"] => self.reset(),
+            [b"grant"] => self.grant(),
+            [b"memory", length] => self.lend(number(length)?),
+            [b"poke", address, hex] => self.poke(number(address)?, &bytes(hex)?),
+            [b"peek", address, length] => peek(&self.memory, number(address)?, number(length)?),
+            [b"feed", hex] => self.feed(&bytes(hex)?),
+            [b"fill", length, value] => self.fill(number(length)?, byte(value)?),
+            [b"room", length, value] => self.new_room(number(length)?, byte(value)?),
+            [b"out", address, length] => peek(&self.room, number(address)?, number(length)?),
+            [b"run", limit, eop] => self.run(number32(limit)?, number32(eop)?),
+            [b"round", k] => self.round(number32(k)?),
+            [b"sheet", length] => self.sheet(number(length)?),
+            [b"load", hex] => self.load(&bytes(hex)?),
+            _ => Err(Fail::Error),
+        }
+    }
+
+    fn take(&mut self, next: Controller) -> Answer {
+        self.controller = next;
+        ok()
+    }
+
+    fn take_state(&mut self, given: &[u8]) -> Answer {
+        let body: &[u8; BODY_LENGTH] = given.try_into().map_err(|_| Fail::Error)?;
+        self.take(Controller::from_body(body))
+    }
+
+    fn write(&mut self, register: u32, value: u8) -> Answer {
+        let next = self.controller.write(register, value)?;
+        self.take(next)
+    }
+
+    fn read(&mut self, register: u32) -> Answer {
+        let (next, value) = self.controller.read(register)?;
+        self.controller = next;
+        Ok(format!("byte 0x{value:02x}"))
+    }
+
+    fn pins(&mut self, levels: u32) -> Answer {
+        let next = self.controller.set_pins(levels)?;
+        self.take(next)
+    }
+
+    fn reset(&mut self) -> Answer {
+        let next = self.controller.reset()?;
+        self.take(next)
+    }
+
+    fn grant(&mut self) -> Answer {
+        let (next, channel) = self.controller.grant()?;
+        self.controller = next;
+        Ok(format!("channel {channel}"))
+    }
+
+    fn lend(&mut self, length: u64) -> Answer {
+        self.lent = at_most(length, ARRAY_LENGTH)?;
+        ok()
+    }
+
+    fn poke(&mut self, address: u64, given: &[u8]) -> Answer {
+        let place = place_in(&self.memory, address, given.len() as u64)?;
+        self.memory[place].copy_from_slice(given);
+        ok()
+    }
+
+    fn feed(&mut self, given: &[u8]) -> Answer {
+        if self.queue.len() + given.len() > MOST_BYTES {
+            return Err(Fail::Error);
+        }
+        self.queue.extend(given);
+        ok()
+    }
+
+    fn fill(&mut self, length: u64, value: u8) -> Answer {
+        let length = at_most(length, MOST_BYTES)?;
+        self.feed(&vec![value; length])
+    }
+
+    fn new_room(&mut self, length: u64, value: u8) -> Answer {
+        let length = at_most(length, MOST_BYTES)?;
+        self.room = vec![value; length];
+        self.position = 0;
+        ok()
+    }
+
+    fn run(&mut self, limit: u32, eop: u32) -> Answer {
+        let memory = &mut self.memory[..self.lent];
+        let input = self.queue.make_contiguous();
+        let room = &mut self.room[self.position..];
+        let (next, stop, tally) = self.controller.run(memory, input, room, limit, eop)?;
+        self.controller = next;
+        self.account(&tally);
+        Ok(run_answer(stop, &tally))
+    }
+
+    fn round(&mut self, k: u32) -> Answer {
+        let memory = &mut self.memory[..self.lent];
+        let input = self.queue.make_contiguous();
+        let room = &mut self.room[self.position..];
+        let (next, stop, tally) = self.controller.round(memory, input, room, k)?;
+        self.controller = next;
+        self.account(&tally.total);
+        Ok(round_answer(stop, &tally))
+    }
+
+    /// "Bytes used leave the queue; bytes written go to the room from its write position on, which
+    /// moves behind them".
+    fn account(&mut self, tally: &Tally) {
+        self.queue.drain(..tally.used);
+        self.position += tally.written;
+    }
+
+    fn sheet(&mut self, length: u64) -> Answer {
+        let mut slice = vec![SLICE_BYTE; at_most(length, MOST_BYTES)?];
+        self.controller.write_sheet(&mut slice)?;
+        Ok(format!("bytes {}", to_hex(&slice)))
+    }
+
+    fn load(&mut self, given: &[u8]) -> Answer {
+        let next = Controller::read_sheet(given)?;
+        self.take(next)
+    }
+}
+
+fn ok() -> Answer {
+    Ok("ok".to_string())
+}
+
+fn run_answer(stop: Stop, tally: &Tally) -> String {
+    format!("{} {}", stop.word(), tally_answer(tally))
+}
+
+fn round_answer(stop: RoundStop, tally: &RoundTally) -> String {
+    let [a, b, c, d] = tally.services;
+    format!("{} services={a},{b},{c},{d} {}", stop.word(), tally_answer(&tally.total))
+}
+
+fn tally_answer(tally: &Tally) -> String {
+    let Tally { transfers, used, written, states } = tally;
+    format!("transfers={transfers} used={used} written={written} states={states}")
+}
+
+/// The bytes of an array; "out of it: `error`".
+fn peek(array: &[u8], address: u64, length: u64) -> Answer {
+    let place = place_in(array, address, length)?;
+    Ok(format!("bytes {}", to_hex(&array[place])))
+}
+
+/// "A place is out of an array where ADDR + N is more than its length; N may be 0."
+fn place_in(array: &[u8], address: u64, length: u64) -> Result<std::ops::Range<usize>, Fail> {
+    let end = address.checked_add(length).ok_or(Fail::Error)?;
+    if end > array.len() as u64 {
+        return Err(Fail::Error);
+    }
+    Ok(address as usize..end as usize)
+}
+
+/// "Words are separated by blanks or tabs; a carriage return at the end of a line is ignored"; "`#`
+/// starts a comment that runs to the end of the line".
+fn words_of(line: &[u8]) -> Vec<&[u8]> {
+    let line = line.strip_suffix(b"\n").unwrap_or(line);
+    let line = line.strip_suffix(b"\r").unwrap_or(line);
+    let end = line.iter().position(|&c| c == b'#').unwrap_or(line.len());
+    line[..end].split(|&c| c == b' ' || c == b'\t').filter(|word| !word.is_empty()).collect()
+}
+
+/// "blank lines are passed over and get no answer".
+pub fn is_blank(line: &[u8]) -> bool {
+    words_of(line).is_empty()
+}
+
+/// "Numbers are decimal or `0x` hexadecimal." One beyond 64 bits fits no place of the protocol.
+fn number(word: &[u8]) -> Result<u64, Fail> {
+    let (base, digits) = match word.strip_prefix(b"0x") {
+        Some(digits) => (16, digits),
+        None => (10, word),
+    };
+    if digits.is_empty() {
+        return Err(Fail::Error);
+    }
+    let mut value: u64 = 0;
+    for &digit in digits {
+        let digit = char::from(digit).to_digit(base).ok_or(Fail::Error)?;
+        let shifted = value.checked_mul(u64::from(base)).ok_or(Fail::Error)?;
+        value = shifted.checked_add(u64::from(digit)).ok_or(Fail::Error)?;
+    }
+    Ok(value)
+}
+
+/// "REG, P, LIMIT, EOP and K take any number below 2^32; a larger one is `error`."
+fn number32(word: &[u8]) -> Result<u32, Fail> {
+    u32::try_from(number(word)?).map_err(|_| Fail::Error)
+}
+
+/// "a byte over 255" is `error`.
+fn byte(word: &[u8]) -> Result<u8, Fail> {
+    u8::try_from(number(word)?).map_err(|_| Fail::Error)
+}
+
+fn at_most(value: u64, most: usize) -> Result<usize, Fail> {
+    match usize::try_from(value) {
+        Ok(value) if value <= most => Ok(value),
+        _ => Err(Fail::Error),
+    }
+}
+
+/// "`HEX` is an even number of hexadecimal digits with no blanks; `-` stands for no bytes".
+fn bytes(word: &[u8]) -> Result<Vec<u8>, Fail> {
+    if word == b"-" {
+        return Ok(Vec::new());
+    }
+    if word.len() & 1 == 1 {
+        return Err(Fail::Error);
+    }
+    word.chunks_exact(2).map(|pair| Ok(digit(pair[0])? << 4 | digit(pair[1])?)).collect()
+}
+
+fn digit(character: u8) -> Result<u8, Fail> {
+    let value = char::from(character).to_digit(16).ok_or(Fail::Error)?;
+    Ok(value as u8)
+}
+
+/// "Answers write hexadecimal digits in lower case."; `-` for no bytes "in answers too".
+pub fn to_hex(given: &[u8]) -> String {
+    if given.is_empty() {
+        return "-".to_string();
+    }
+    let digits = b"0123456789abcdef";
+    let mut text = String::with_capacity(2 * given.len());
+    for &byte in given {
+        text.push(char::from(digits[usize::from(byte >> 4)]));
+        text.push(char::from(digits[usize::from(byte & 15)]));
+    }
+    text
+}
+
+/// Answer every line of `input`. With `prompt`, each answer is shown at once.
+pub fn converse(input: &mut dyn BufRead, output: &mut dyn Write, prompt: bool) -> io::Result<()> {
+    let mut console = Console::new();
+    let mut line = Vec::new();
+    while input.read_until(b'\n', &mut line)? > 0 {
+        if let Some(answer) = console.answer(&line) {
+            output.write_all(answer.as_bytes())?;
+            output.write_all(b"\n")?;
+            if prompt {
+                output.flush()?;
+            }
+        }
+        line.clear();
+    }
+    output.flush()
+}
