@@ -1,0 +1,4 @@
+-- The demands, proved.
+pub mod Refusals
+pub mod Outcomes
+pub mod Turns

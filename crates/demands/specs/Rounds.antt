@@ -1,0 +1,63 @@
+-- Demand 3 for rounds: a round is its grants and runs, and the services that it reports are fair.
+use Prim.Native.Nat.{ℕ, zero, suc, _+_, _/_, _≤_, _<_}
+use mathlib.Core.Path.{_≡_}
+use mathlib.Core.Bool.{not}
+use mathlib.Core.List.{List, [], _∷_}
+use lib.Dec.{eqb}
+use lib.ListN.{getD, drop}
+use Rattle.words.specs.Choice.{when}
+use Rattle.words.specs.Grounds.{_if_, first}
+use Rattle.am9517.specs.Refusals.{refusal}
+use Rattle.am9517.specs.declared.Controller.{Controller}
+use Rattle.round.specs.Round.{Course, beginning, nobody, served, begun, isEnded}
+use Rattle.round.specs.Answers.{roundGrounds, roundedOf}
+use Rattle.demands.specs.Lists.{All, count}
+use Rattle.demands.specs.Operations.{Op, Grant, Run, Round, next}
+use Rattle.demands.specs.Fairness.{grants, channels, Contends, Fair}
+
+-- the calls of a round that has come so far and may begin left more services: grant, run, grant, run
+unfoldable pub callsFrom : ℕ → List ℕ → Course → List Op
+callsFrom zero d w = []
+callsFrom (suc left) d w =
+    first ([] if nobody (w .controller) ∷ [])
+    (Grant
+    ∷ Run (w .memory) (drop (w .used) d) (drop (w .written) (w .room)) 65536 0
+    ∷ first ([] if not (isEnded (served w d .reason)) ∷ []) (callsFrom left d (begun w d)))
+
+-- the calls of a round; a refused one makes none
+abbrev pub calls : Controller → List ℕ → List ℕ → List ℕ → ℕ → List Op
+calls s m d r k = when (eqb (refusal (roundGrounds s m k)) 0) (callsFrom k d (beginning s m r)) []
+
+-- the state after these calls
+abbrev pub afterAll : Controller → List Op → Controller
+afterAll s [] = s
+afterAll s (op ∷ ops) = afterAll (next s op) ops
+
+-- the services that a round reports for channel n
+abbrev pub reported : Controller → List ℕ → List ℕ → List ℕ → ℕ → ℕ → ℕ
+reported s m d r k n = getD (roundedOf s m d r k .rounded .services) n 0
+
+-- A round is its calls: it leaves the controller that they leave, and reports the grants that they make.
+pub record IsCalls (s : Controller) (m d r : List ℕ) (k : ℕ) : Type 0 where
+  pub leaves : next s (Round m d r k) ≡ afterAll s (calls s m d r k)
+  pub reports : (n : ℕ) → n < 4 → reported s m d r k n ≡ count n (channels (grants s (calls s m d r k)))
+
+abbrev pub RoundIsCalls : Type 0
+RoundIsCalls = (s : Controller) (m d r : List ℕ) (k : ℕ) → IsCalls s m d r k
+
+-- Channel c is served fairly by what the round reports: at least a quarter of all, and led by one at most.
+pub record FairReport (c : ℕ) (services : ℕ → ℕ) : Type 0 where
+  pub share : (services 0 + services 1 + services 2 + services 3) / 4 ≤ services c
+  pub lead : (d : ℕ) → d < 4 → ¬ (d ≡ c) → services d ≤ services c + 1
+
+pub record FairRound (c : ℕ) (s : Controller) (m d r : List ℕ) (k : ℕ) : Type 0 where
+  pub order : Fair c (channels (grants s (calls s m d r k)))
+  pub report : FairReport c (reported s m d r k)
+
+-- A round in which channel c contends at each grant serves it fairly.
+abbrev pub Demand3OfRounds : Type 0
+Demand3OfRounds =
+    (s : Controller) (m d r : List ℕ) (k c : ℕ)
+    → c < 4
+    → All (Contends c) (grants s (calls s m d r k))
+    → FairRound c s m d r k
