@@ -35,10 +35,10 @@ use Rattle.sheet.proofs.write.Kinds as sheet-write-kinds
 use Rattle.sheet.proofs.write.Reads as sheet-write
 use Rattle.sheet.proofs.read.Kinds as sheet-read-kinds
 use Rattle.sheet.proofs.read.Reads as sheet-read
-use Rattle.sheet.proofs.body.body_of.Kinds as body-kinds
-use Rattle.sheet.proofs.body.body_of.Reads as body
-use Rattle.sheet.proofs.body.state_of.Kinds as state-kinds
-use Rattle.sheet.proofs.body.state_of.Reads as state
+use Rattle.sheet.proofs.body_of.Kinds as body-kinds
+use Rattle.sheet.proofs.body_of.Reads as body
+use Rattle.sheet.proofs.state_of.Kinds as state-kinds
+use Rattle.sheet.proofs.state_of.Reads as state
 
 -- two values that both equal a third
 same : {A : Type 0} {x y v : A} → x ≡ v → y ≡ v → x ≡ y

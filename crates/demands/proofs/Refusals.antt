@@ -11,22 +11,22 @@ use borrow.Author.Tests.{ne-eqb, eqb-true}
 use Rattle.words.specs.Choice.{when}
 use Rattle.words.specs.Grounds.{Ground, first}
 use Rattle.am9517.specs.Refusals.{refusal}
-use Rattle.am9517.specs.Answers.{numberOf, outcome}
+use Rattle.am9517.specs.Answers.{outcome}
 use Rattle.am9517.specs.declared.Controller.{Controller}
 use Rattle.am9517.specs.declared.Answer.{Answer}
 use Rattle.service.specs.World.{Stop}
-use Rattle.service.specs.Answers.{Given, given, runNumberOf, stopped, refusedOf, ranOf, runGrounds}
+use Rattle.service.specs.Answers.{given, runNumberOf, stopped, refusedOf, ranOf, runGrounds}
 use Rattle.round.specs.declared.RoundAnswer.the-variants.{Refused}
 use Rattle.round.specs.Round.{Course, Close, beginning, close, begun, roundOf}
-use Rattle.round.specs.Answers.{RoundGiven, roundNumberOf, closed, roundGrounds, roundedOf}
+use Rattle.round.specs.Answers.{roundNumberOf, closed, roundGrounds, roundedOf}
 use Rattle.sheet.specs.Sheet.{sheetWriteGrounds, sheetWriteOf}
+use Rattle.demands.specs.Lists.{All, none, also}
+use Rattle.demands.specs.Operations.{Op, Write, Read, Pins, Reset, Grant, Run, Round, SheetWriting, SheetReading, before, after, said, counts, ranScene, roundScene}
+use Rattle.demands.specs.Refusals.{First, here, later, grounds, Refuses, Demand1}
 use Rattle.words.proofs.ChoiceLaws.{when-both}
 use Rattle.am9517.proofs.RefusalLaws.{number-told}
 use Rattle.service.proofs.AnswerLaws.{run-refused}
 use Rattle.sheet.proofs.SheetLaws.{write-told}
-use Rattle.demands.specs.Lists.{All, none, also}
-use Rattle.demands.specs.Operations.{Op, Write, Read, Pins, Reset, Grant, Run, Round, SheetWriting, SheetReading, before, after, said, counts, ranScene, ranCounts, roundScene, roundCounts}
-use Rattle.demands.specs.Refusals.{First, here, later, grounds, Refuses, Demand1}
 
 -- by whether the first ground holds, and what is known of those after it
 first-by : (n : ℕ) (g : Ground ℕ) (gs : List (Ground ℕ)) (t : Bool) → g .holds ≡ t → (first gs 0 ≡ n → First n gs) → when t (g .gives) (first gs 0) ≡ n → First n (g ∷ gs)
