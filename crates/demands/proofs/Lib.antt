@@ -3,3 +3,4 @@ pub mod Refusals
 pub mod Outcomes
 pub mod Turns
 pub mod Fairness
+pub mod Rounds

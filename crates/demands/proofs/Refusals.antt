@@ -95,7 +95,7 @@ round-told : (s : Controller) (m d r : List ℕ) (k : ℕ) → roundNumberOf (ro
 unfolding roundedOf
 round-told s m d r k = round-by (refusal (roundGrounds s m k)) _ _ _ refl (round-number k d (beginning s m r))
 
-round-refused : (s : Controller) (m d r : List ℕ) (k : ℕ) → ¬ (refusal (roundGrounds s m k) ≡ 0)
+pub round-refused : (s : Controller) (m d r : List ℕ) (k : ℕ) → ¬ (refusal (roundGrounds s m k) ≡ 0)
     → roundedOf s m d r k ≡ closed (close (beginning s m r) (Refused (refusal (roundGrounds s m k))))
 unfolding roundedOf when
 round-refused s m d r k h = simp (ne-eqb _ 0 h)

@@ -40,7 +40,7 @@ reported s m d r k n = getD (roundedOf s m d r k .rounded .services) n 0
 -- A round is its calls: it leaves the controller that they leave, and reports the grants that they make.
 pub record IsCalls (s : Controller) (m d r : List ℕ) (k : ℕ) : Type 0 where
   pub leaves : next s (Round m d r k) ≡ afterAll s (calls s m d r k)
-  pub reports : (n : ℕ) → n < 4 → reported s m d r k n ≡ count n (channels (grants s (calls s m d r k)))
+  pub reports : (n : ℕ) → reported s m d r k n ≡ count n (channels (grants s (calls s m d r k)))
 
 abbrev pub RoundIsCalls : Type 0
 RoundIsCalls = (s : Controller) (m d r : List ℕ) (k : ℕ) → IsCalls s m d r k
@@ -48,7 +48,7 @@ RoundIsCalls = (s : Controller) (m d r : List ℕ) (k : ℕ) → IsCalls s m d r
 -- Channel c is served fairly by what the round reports: at least a quarter of all, and led by one at most.
 pub record FairReport (c : ℕ) (services : ℕ → ℕ) : Type 0 where
   pub share : (services 0 + services 1 + services 2 + services 3) / 4 ≤ services c
-  pub lead : (d : ℕ) → d < 4 → ¬ (d ≡ c) → services d ≤ services c + 1
+  pub lead : (d : ℕ) → ¬ (d ≡ c) → services d ≤ services c + 1
 
 pub record FairRound (c : ℕ) (s : Controller) (m d r : List ℕ) (k : ℕ) : Type 0 where
   pub order : Fair c (channels (grants s (calls s m d r k)))
