@@ -4,3 +4,5 @@ pub mod Outcomes
 pub mod Turns
 pub mod Fairness
 pub mod Rounds
+pub mod Cases
+pub mod Sheets

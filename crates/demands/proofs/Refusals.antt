@@ -74,7 +74,7 @@ unfolding when stopped
 ran-by n true x s m r e = sym (eqb-true _ _ e)
 ran-by n false x s m r e = refl
 
-ran-told : (s : Controller) (m d r : List ℕ) (limit eop : ℕ) → runNumberOf (ranOf s m d r limit eop .ran .answer) ≡ refusal (runGrounds s m)
+pub ran-told : (s : Controller) (m d r : List ℕ) (limit eop : ℕ) → runNumberOf (ranOf s m d r limit eop .ran .answer) ≡ refusal (runGrounds s m)
 unfolding ranOf
 ran-told s m d r limit eop = ran-by (refusal (runGrounds s m)) _ _ s m r refl
 
@@ -91,7 +91,7 @@ unfolding when closed
 round-by n true x w e h = h ∙ sym (eqb-true _ _ e)
 round-by n false x w e h = refl
 
-round-told : (s : Controller) (m d r : List ℕ) (k : ℕ) → roundNumberOf (roundedOf s m d r k .rounded .answer) ≡ refusal (roundGrounds s m k)
+pub round-told : (s : Controller) (m d r : List ℕ) (k : ℕ) → roundNumberOf (roundedOf s m d r k .rounded .answer) ≡ refusal (roundGrounds s m k)
 unfolding roundedOf
 round-told s m d r k = round-by (refusal (roundGrounds s m k)) _ _ _ refl (round-number k d (beginning s m r))
 

@@ -24,9 +24,9 @@ use Rattle.service.specs.Answers.{Given, stopped}
 use Rattle.round.specs.Round.{Course, Close, beginning, nobody, served, counted, begun, isEnded, roundOf}
 use Rattle.round.specs.Answers.{RoundGiven, closed, roundGrounds, roundedOf}
 use Rattle.demands.specs.Lists.{All, none, also, count}
-use Rattle.demands.specs.Operations.{Op, Grant, Run, next}
+use Rattle.demands.specs.Operations.{Op, Grant, Run, next, afterAll}
 use Rattle.demands.specs.Fairness.{Traced, told, grants, channels, Fair}
-use Rattle.demands.specs.Rounds.{callsFrom, calls, afterAll, IsCalls, RoundIsCalls, Demand3OfRounds}
+use Rattle.demands.specs.Rounds.{callsFrom, calls, IsCalls, RoundIsCalls, Demand3OfRounds}
 use Rattle.words.proofs.ChoiceLaws.{when-both, when-hit, when-miss, never}
 use Rattle.am9517.proofs.StateLaws.{ranges, of-ranges, below4}
 use Rattle.am9517.proofs.KeepLaws.{granted-kept}

@@ -5,3 +5,5 @@ pub mod Refusals
 pub mod Outcomes
 pub mod Fairness
 pub mod Rounds
+pub mod Cases
+pub mod Sheets

@@ -69,6 +69,11 @@ after s (SheetReading bytes) = scene (sheetReadOf s bytes .controller) [] [] []
 abbrev pub next : Controller → Op → Controller
 next s op = after s op .controller
 
+-- the state after these operations, called one after the other
+abbrev pub afterAll : Controller → List Op → Controller
+afterAll s [] = s
+afterAll s (op ∷ ops) = afterAll (next s op) ops
+
 -- the refusal number that the answer says, 0 for none
 abbrev pub said : Controller → Op → ℕ
 said s (Write r b) = numberOf (writeOf s r b .answer)

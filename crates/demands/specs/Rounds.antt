@@ -12,7 +12,7 @@ use Rattle.am9517.specs.declared.Controller.{Controller}
 use Rattle.round.specs.Round.{Course, beginning, nobody, served, begun, isEnded}
 use Rattle.round.specs.Answers.{roundGrounds, roundedOf}
 use Rattle.demands.specs.Lists.{All, count}
-use Rattle.demands.specs.Operations.{Op, Grant, Run, Round, next}
+use Rattle.demands.specs.Operations.{Op, Grant, Run, Round, next, afterAll}
 use Rattle.demands.specs.Fairness.{grants, channels, Contends, Fair}
 
 -- the calls of a round that has come so far and may begin left more services: grant, run, grant, run
@@ -27,11 +27,6 @@ callsFrom (suc left) d w =
 -- the calls of a round; a refused one makes none
 abbrev pub calls : Controller → List ℕ → List ℕ → List ℕ → ℕ → List Op
 calls s m d r k = when (eqb (refusal (roundGrounds s m k)) 0) (callsFrom k d (beginning s m r)) []
-
--- the state after these calls
-abbrev pub afterAll : Controller → List Op → Controller
-afterAll s [] = s
-afterAll s (op ∷ ops) = afterAll (next s op) ops
 
 -- the services that a round reports for channel n
 abbrev pub reported : Controller → List ℕ → List ℕ → List ℕ → ℕ → ℕ → ℕ
