@@ -1,6 +1,6 @@
 -- The worked cases hold of the rules: past the tests of lengths each is computed, the two whole ones by the closed form of a service.
 -- Assumes nothing.
-use Prim.Native.Nat.{ℕ, zero, suc, _<_}
+use Prim.Native.Nat.{ℕ, suc, _-_, _<_}
 use mathlib.Core.Path.{_≡_, refl, sym, ap, subst, _∙_}
 use mathlib.Core.Bool.{Bool, true, false, not}
 use mathlib.Core.List.{List, [], _∷_, _++_}
@@ -13,7 +13,10 @@ use Rattle.words.specs.Grounds.{first}
 use Rattle.words.specs.Bits.{withBit}
 use Rattle.words.specs.Bytes.{byteOf, withByte}
 use Rattle.words.specs.Steps.{stride, step, steps}
-use Rattle.am9517.specs.State.{fresh, put, blank, Lowest}
+use Rattle.am9517.specs.State.{fresh, make, put, but, blank, Field, Command, Pins, Lowest}
+use Rattle.am9517.specs.declared.Channel.{Channel}
+use Rattle.am9517.specs.declared.Answer.{Answer}
+use Rattle.am9517.specs.declared.Answer.the-variants.{Value}
 use Rattle.am9517.specs.Ranges.{modeValid, modesValid, fieldsValid, serviceValid, valid}
 use Rattle.am9517.specs.Registers.{portWritten, portRead, modeWritten, written, value, afterRead}
 use Rattle.am9517.specs.Serving.{active, counted, requests, entitled, setOf, status, picked, granted}
@@ -35,7 +38,7 @@ use Rattle.sheet.specs.Body.{bodyOf, stateOf}
 use Rattle.demands.specs.Lists.{All, none, also}
 use Rattle.demands.specs.Operations.{Grant, Run, Round, SheetWriting, SheetReading, next, afterAll, said}
 use Rattle.demands.specs.Fairness.{Granted, told, grants, channels, Contends}
-use Rattle.demands.specs.Cases.{Holds, services, setUp, idleWith, ch, ends, proved, whole, limits, WorkedCases, Tight}
+use Rattle.demands.specs.Cases.{Holds, services, setUp, idleWith, ch, ends, proved, whole, limits, WorkedCases, Tight, p5, p6}
 use Rattle.words.proofs.ChoiceLaws.{when-hit, never}
 use Rattle.am9517.proofs.RefusalLaws.{number-told}
 use Rattle.service.proofs.AnswerLaws.{run-accepted}
@@ -69,16 +72,57 @@ next-whole : (s : Controller) (m : List ℕ) → length m ≡ 65536 → next s (
 unfolding ranOf refusal first
 next-whole s m h = ran-by s m [] (runOf 65536 0 [] (startOf s m [])) (valid s) (wrongSize m) (eqb (s .«in_service») 0) (ap not (eq-eqb _ _ h))
 
--- the grants of services over a whole memory
-abbrev grantsOn : Controller → List ℕ → ℕ → List Granted
-grantsOn s m zero = []
-grantsOn s m (suc k) = told s (grantOf s .answer) ++ grantsOn (ranOn (next s Grant) m) m k
+-- a grant that goes to channel n, its run, and then more services
+abbrev to : Controller → ℕ → Granted
+to s n = record { before = s; channel = n }
 
-grants-whole : (m : List ℕ) → length m ≡ 65536 → (s : Controller) (k : ℕ) → grants s (services m k) ≡ grantsOn s m k
-grants-whole m h s zero = refl
-grants-whole m h s (suc k) =
-    ap (λ (t : Controller). told s (grantOf s .answer) ++ grants t (services m k)) (next-whole (next s Grant) m h)
-    ∙ ap (λ (gs : List Granted). told s (grantOf s .answer) ++ gs) (grants-whole m h (ranOn (next s Grant) m) k)
+served : (m : List ℕ) → length m ≡ 65536 → (s t : Controller) (n k : ℕ) (gs : List Granted) → grantOf s .answer ≡ Value n → ranOn (next s Grant) m ≡ t
+    → grants t (services m k) ≡ gs → grants s (services m (suc k)) ≡ to s n ∷ gs
+served m h s t n k gs a e rest =
+    ap (λ (x : Answer). told s x ++ grants (next (next s Grant) (Run m [] [] 65536 0)) (services m k)) a
+    ∙ ap (λ (y : Controller). to s n ∷ grants y (services m k)) (next-whole (next s Grant) m h ∙ e)
+    ∙ ap (λ (xs : List Granted). to s n ∷ xs) rest
+
+-- set up, with these lines held, this lowest channel, and so many transfers made by each channel
+abbrev at : ℕ → ℕ → ℕ → ℕ → ℕ → ℕ → Controller
+at lines lowest a b c d =
+    let one : ℕ → Channel = λ n. ch 0 n 9 (9 - n) 0x40 in
+    make (one a ∷ one b ∷ one c ∷ one d ∷ []) (but (but (but (λ (f : Field). 0) Command 0x10) Pins lines) Lowest lowest)
+
+p5-grants : (m : List ℕ) → length m ≡ 65536
+    → grants (at 15 3 0 0 0 0) (services m 5)
+    ≡ to (at 15 3 0 0 0 0) 0 ∷ to (at 15 0 1 0 0 0) 1 ∷ to (at 15 1 1 1 0 0) 2 ∷ to (at 15 2 1 1 1 0) 3 ∷ to (at 15 3 1 1 1 1) 0 ∷ []
+unfolding
+    when _and_ first withBit stride step modeValid modesValid fieldsValid serviceValid valid active counted entitled picked granted refusal outcome copies dropped short stops
+    plain latches cost moved runner finished over single transferred runOf
+p5-grants m h =
+    served m h (at 15 3 0 0 0 0) (at 15 0 1 0 0 0) 0 4 _ refl refl
+    (served m h (at 15 0 1 0 0 0) (at 15 1 1 1 0 0) 1 3 _ refl refl
+    (served m h (at 15 1 1 1 0 0) (at 15 2 1 1 1 0) 2 2 _ refl refl
+    (served m h (at 15 2 1 1 1 0) (at 15 3 1 1 1 1) 3 1 _ refl refl
+    (served m h (at 15 3 1 1 1 1) (at 15 0 2 1 1 1) 0 0 [] refl refl refl))))
+
+p6-grants : (m : List ℕ) → length m ≡ 65536
+    → grants (at 10 1 0 0 0 0) (services m 3) ≡ to (at 10 1 0 0 0 0) 3 ∷ to (at 10 3 0 0 0 1) 1 ∷ to (at 10 1 0 1 0 1) 3 ∷ []
+unfolding
+    when _and_ first withBit stride step modeValid modesValid fieldsValid serviceValid valid active counted entitled picked granted refusal outcome copies dropped short stops
+    plain latches cost moved runner finished over single transferred runOf
+p6-grants m h =
+    served m h (at 10 1 0 0 0 0) (at 10 3 0 0 0 1) 3 2 _ refl refl
+    (served m h (at 10 3 0 0 0 1) (at 10 1 0 1 0 1) 1 1 _ refl refl (served m h (at 10 1 0 1 0 1) (at 10 3 0 1 0 2) 3 0 [] refl refl refl))
+
+-- where the set-up leads
+set-up : (afterAll fresh (setUp 15) ≡ at 15 3 0 0 0 0) × (afterAll (put fresh Lowest 1) (setUp 10) ≡ at 10 1 0 0 0 0)
+unfolding
+    when _and_ first withByte modeValid modesValid fieldsValid serviceValid valid portWritten modeWritten written refusal outcome
+set-up = (refl, refl)
+
+p5-calls : (m : List ℕ) → length m ≡ 65536 → grants (p5 .start) (p5 .calls m)
+    ≡ to (at 15 3 0 0 0 0) 0 ∷ to (at 15 0 1 0 0 0) 1 ∷ to (at 15 1 1 1 0 0) 2 ∷ to (at 15 2 1 1 1 0) 3 ∷ to (at 15 3 1 1 1 1) 0 ∷ []
+p5-calls m h = ap (λ (s : Controller). grants s (services m 5)) (set-up .0) ∙ p5-grants m h
+
+p6-calls : (m : List ℕ) → length m ≡ 65536 → grants (p6 .start) (p6 .calls m) ≡ to (at 10 1 0 0 0 0) 3 ∷ to (at 10 3 0 0 0 1) 1 ∷ to (at 10 1 0 1 0 1) 3 ∷ []
+p6-calls m h = ap (λ (s : Controller). grants s (services m 3)) (set-up .1) ∙ p6-grants m h
 
 -- memories of the right and of another size
 sized : (m : List ℕ) → length m ≡ 65536 → wrongSize m ≡ false
@@ -137,8 +181,8 @@ proved-cases =
     (also (λ m h. ran-whole _ m _ _ refl refl h ∙ refl)
     (also (λ m h. ran-whole _ m _ _ refl refl h ∙ refl)
     (also (λ m h. ran-whole _ m _ _ refl refl h ∙ refl)
-    (also (λ m h. ap channels (grants-whole m h (afterAll fresh (setUp 15)) 5) ∙ refl)
-    (also (λ m h. ap channels (grants-whole m h (afterAll (put fresh Lowest 1) (setUp 10)) 3) ∙ refl)
+    (also (λ m h. ap channels (p5-calls m h))
+    (also (λ m h. ap channels (p6-calls m h))
     (also (λ m h. ran-whole _ m _ _ refl refl h ∙ refl)
     (also (λ m h. ran-whole _ m _ _ refl refl h ∙ refl)
     (also (λ m h. refl) none)))))))))
@@ -170,11 +214,9 @@ pub worked-cases : WorkedCases
 worked-cases = all-both proved-cases (all-both whole-cases limit-cases)
 
 pub tight : Tight
-unfolding
-    when _and_ first withBit byteOf withByte stride step modeValid modesValid fieldsValid serviceValid valid portWritten modeWritten written active counted entitled picked granted
-    refusal outcome copies dropped short stops plain latches cost moved runner finished over single transferred runOf
+unfolding active counted entitled
 tight m h =
-    subst (All (Contends 3)) (sym (grants-whole m h (afterAll fresh (setUp 15)) 5))
+    subst (All (Contends 3)) (sym (p5-calls m h))
     (also (record { rotation = refl; entitled = refl })
     (also (record { rotation = refl; entitled = refl })
     (also (record { rotation = refl; entitled = refl })
