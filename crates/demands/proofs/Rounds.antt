@@ -24,9 +24,9 @@ use Rattle.service.specs.Answers.{Given, stopped}
 use Rattle.round.specs.Round.{Course, Close, beginning, nobody, served, counted, begun, isEnded, roundOf}
 use Rattle.round.specs.Answers.{RoundGiven, closed, roundGrounds, roundedOf}
 use Rattle.demands.specs.Lists.{All, none, also, count}
-use Rattle.demands.specs.Operations.{Op, Grant, Run, next, afterAll}
+use Rattle.demands.specs.Operations.{Op, Write, Read, Pins, Reset, Grant, Run, Round, SheetWriting, SheetReading, next, afterAll}
 use Rattle.demands.specs.Fairness.{Traced, told, grants, channels, Fair}
-use Rattle.demands.specs.Rounds.{callsFrom, calls, IsCalls, RoundIsCalls, Demand3OfRounds}
+use Rattle.demands.specs.Rounds.{callsFrom, calls, IsCalls, RoundIsCalls, Demand3OfRounds, callsOf, spelled, TracedOrRound, Demand3WithRounds}
 use Rattle.words.proofs.ChoiceLaws.{when-both, when-hit, when-miss, never}
 use Rattle.am9517.proofs.StateLaws.{ranges, of-ranges, below4}
 use Rattle.am9517.proofs.KeepLaws.{granted-kept}
@@ -216,3 +216,48 @@ demand-3-of-rounds s m d r k c small h =
         lead = λ e n. omega (arith, fair .lead e n, is e, is c);
       };
     }
+
+after-both : (s : Controller) (xs ys : List Op) → afterAll s (xs ++ ys) ≡ afterAll (afterAll s xs) ys
+after-both s [] ys = refl
+after-both s (x ∷ xs) ys = after-both (next s x) xs ys
+
+calls-leave : (s : Controller) (op : Op) → afterAll s (callsOf s op) ≡ next s op
+calls-leave s (Write r b) = refl
+calls-leave s (Read r) = refl
+calls-leave s (Pins p) = refl
+calls-leave s Reset = refl
+calls-leave s Grant = refl
+calls-leave s (Run m d r limit eop) = refl
+calls-leave s (Round m d r k) = sym (round-is-calls s m d r k .leaves)
+calls-leave s (SheetWriting out) = refl
+calls-leave s (SheetReading bytes) = refl
+
+spelled-leaves : (s : Controller) (ops : List Op) → afterAll s ops ≡ afterAll s (spelled s ops)
+spelled-leaves s [] = refl
+spelled-leaves s (op ∷ ops) =
+    spelled-leaves (next s op) ops
+    ∙ ap (λ (t : Controller). afterAll t (spelled (next s op) ops)) (sym (calls-leave s op))
+    ∙ sym (after-both s (callsOf s op) (spelled (next s op) ops))
+
+all-both : {A : Type 0} {P : A → Type 0} {xs ys : List A} → All P xs → All P ys → All P (xs ++ ys)
+all-both none h = h
+all-both (also p g) h = also p (all-both g h)
+
+calls-of-traced : (s : Controller) (op : Op) → TracedOrRound op → All Traced (callsOf s op)
+calls-of-traced s (Write r b) t = also t none
+calls-of-traced s (Read r) t = also tt none
+calls-of-traced s (Pins p) t = also tt none
+calls-of-traced s Reset t = absurd t
+calls-of-traced s Grant t = also tt none
+calls-of-traced s (Run m d r limit eop) t = also tt none
+calls-of-traced s (Round m d r k) t = calls-traced s m d r k
+calls-of-traced s (SheetWriting out) t = also tt none
+calls-of-traced s (SheetReading bytes) t = absurd t
+
+spelled-traced : (s : Controller) (ops : List Op) → All TracedOrRound ops → All Traced (spelled s ops)
+spelled-traced s [] none = none
+spelled-traced s (op ∷ ops) (also t u) = all-both (calls-of-traced s op t) (spelled-traced (next s op) ops u)
+
+pub demand-3-with-rounds : Demand3WithRounds
+demand-3-with-rounds s ops c small u =
+    record { leaves = spelled-leaves s ops; fair = λ h. demand-3 s (spelled s ops) c small (spelled-traced s ops u) h }

@@ -2,7 +2,7 @@
 use Prim.Native.Nat.{ℕ, zero, suc, _+_, _/_, _≤_, _<_}
 use mathlib.Core.Path.{_≡_}
 use mathlib.Core.Bool.{not}
-use mathlib.Core.List.{List, [], _∷_}
+use mathlib.Core.List.{List, [], _∷_, _++_}
 use lib.Dec.{eqb}
 use lib.ListN.{getD, drop}
 use Rattle.words.specs.Choice.{when}
@@ -12,8 +12,8 @@ use Rattle.am9517.specs.declared.Controller.{Controller}
 use Rattle.round.specs.Round.{Course, beginning, nobody, served, begun, isEnded}
 use Rattle.round.specs.Answers.{roundGrounds, roundedOf}
 use Rattle.demands.specs.Lists.{All, count}
-use Rattle.demands.specs.Operations.{Op, Grant, Run, Round, next, afterAll}
-use Rattle.demands.specs.Fairness.{grants, channels, Contends, Fair}
+use Rattle.demands.specs.Operations.{Op, Write, Read, Pins, Reset, Grant, Run, Round, SheetWriting, SheetReading, next, afterAll}
+use Rattle.demands.specs.Fairness.{Traced, grants, channels, Contends, Fair}
 
 -- the calls of a round that has come so far and may begin left more services: grant, run, grant, run
 unfoldable pub callsFrom : ℕ → List ℕ → Course → List Op
@@ -56,3 +56,39 @@ Demand3OfRounds =
     → c < 4
     → All (Contends c) (grants s (calls s m d r k))
     → FairRound c s m d r k
+
+-- Rounds among other operations: each stands for its calls.
+abbrev pub callsOf : Controller → Op → List Op
+callsOf s (Write r b) = Write r b ∷ []
+callsOf s (Read r) = Read r ∷ []
+callsOf s (Pins p) = Pins p ∷ []
+callsOf s Reset = Reset ∷ []
+callsOf s Grant = Grant ∷ []
+callsOf s (Run m d r limit eop) = Run m d r limit eop ∷ []
+callsOf s (Round m d r k) = calls s m d r k
+callsOf s (SheetWriting out) = SheetWriting out ∷ []
+callsOf s (SheetReading bytes) = SheetReading bytes ∷ []
+
+abbrev pub spelled : Controller → List Op → List Op
+spelled s [] = []
+spelled s (op ∷ ops) = callsOf s op ++ spelled (next s op) ops
+
+-- an operation of a trace, or a round
+abbrev pub TracedOrRound : Op → Type 0
+TracedOrRound (Write r b) = Traced (Write r b)
+TracedOrRound (Read r) = Unit
+TracedOrRound (Pins p) = Unit
+TracedOrRound Reset = ⊥
+TracedOrRound Grant = Unit
+TracedOrRound (Run m d r limit eop) = Unit
+TracedOrRound (Round m d r k) = Unit
+TracedOrRound (SheetWriting out) = Unit
+TracedOrRound (SheetReading bytes) = ⊥
+
+-- Demand 3 for any operations with rounds among them, and they lead where the calls lead.
+pub record FairWithRounds (c : ℕ) (s : Controller) (ops : List Op) : Type 0 where
+  pub leaves : afterAll s ops ≡ afterAll s (spelled s ops)
+  pub fair : All (Contends c) (grants s (spelled s ops)) → Fair c (channels (grants s (spelled s ops)))
+
+abbrev pub Demand3WithRounds : Type 0
+Demand3WithRounds = (s : Controller) (ops : List Op) (c : ℕ) → c < 4 → All TracedOrRound ops → FairWithRounds c s ops
