@@ -1,0 +1,33 @@
+-- Demand 2, one outcome: each contract is an equation of the answer and all that is lent, so two outcomes that meet it are equal.
+-- Assumes nothing.
+use mathlib.Core.Path.{_≡_, refl, sym, ap, _∙_}
+use Rattle.service.specs.Answers.{Given}
+use Rattle.round.specs.Answers.{RoundGiven}
+use Rattle.sheet.specs.Sheet.{Stored}
+use Rattle.demands.specs.Outcomes.{OneOutcome}
+
+-- two values that both equal a third
+same : {A : Type 0} {x y v : A} → x ≡ v → y ≡ v → x ≡ y
+same p q = p ∙ sym q
+
+pub one-outcome : OneOutcome
+one-outcome =
+    record {
+      fresh = record { free = λ κs a. tt; single = λ κs a x y l l' p q. (same p q, refl) };
+      write = record { free = λ κs a. tt; single = λ κs a x y l l' p q. (same p q, refl) };
+      read = record { free = λ κs a. tt; single = λ κs a x y l l' p q. (same p q, refl) };
+      pins = record { free = λ κs a. tt; single = λ κs a x y l l' p q. (same p q, refl) };
+      reset = record { free = λ κs a. tt; single = λ κs a x y l l' p q. (same p q, refl) };
+      grant = record { free = λ κs a. tt; single = λ κs a x y l l' p q. (same p q, refl) };
+      valid = record { free = λ κs a. tt; single = λ κs a x y l l' p q. (same p q, refl) };
+      active = record { free = λ κs a. tt; single = λ κs a x y l l' p q. (same p q, refl) };
+      entitledSet = record { free = λ κs a. tt; single = λ κs a x y l l' p q. (same p q, refl) };
+      picked = record { free = λ κs a. tt; single = λ κs a x y l l' p q. (same p q, refl) };
+      ended = record { free = λ κs a. tt; single = λ κs a x y l l' p q. (same p q, refl) };
+      run = record { free = λ κs a. tt; single = λ κs a x y l l' p q. (ap (λ (g : Given). g .ran) (same p q), ap (λ (g : Given). (tt, (g .memory, (tt, (g .room, (tt, (tt, tt))))))) (same p q)) };
+      round = record { free = λ κs a. tt; single = λ κs a x y l l' p q. (ap (λ (g : RoundGiven). g .rounded) (same p q), ap (λ (g : RoundGiven). (tt, (g .memory, (tt, (g .room, (tt, tt)))))) (same p q)) };
+      sheetWrite = record { free = λ κs a. tt; single = λ κs a x y l l' p q. (ap (λ (s : Stored). s .answer) (same p q), ap (λ (s : Stored). (tt, (s .bytes, tt))) (same p q)) };
+      sheetRead = record { free = λ κs a. tt; single = λ κs a x y l l' p q. (same p q, refl) };
+      bodyOf = record { free = λ κs a. tt; single = λ κs a x y l l' p q. (same p q, refl) };
+      stateOf = record { free = λ κs a. tt; single = λ κs a x y l l' p q. (same p q, refl) };
+    }

@@ -1,0 +1,214 @@
+-- Demand 2: document 01's worked cases, as one list under one statement.
+use Prim.Native.Nat.{ℕ, zero, suc}
+use mathlib.Core.Path.{_≡_}
+use mathlib.Core.List.{List, [], _∷_, _++_}
+use lib.ListN.{length, getD, set}
+use Rattle.am9517.specs.State.{fresh, make, put, blank, but, Field, Command, Tc, Mask, Temporary, Pins, Lowest}
+use Rattle.am9517.specs.Answers.{readOf}
+use Rattle.am9517.specs.declared.Channel.{Channel}
+use Rattle.am9517.specs.declared.Controller.{Controller}
+use Rattle.am9517.specs.declared.Answer.the-variants.{Value}
+use Rattle.service.specs.declared.Reason.the-variants.{Ended}
+use Rattle.service.specs.declared.RunAnswer.the-variants.{Stopped}
+use Rattle.service.specs.Answers.{Given, given, ranOf}
+use Rattle.sheet.specs.Sheet.{sheetOf}
+use Rattle.demands.specs.Lists.{All}
+use Rattle.demands.specs.Operations as op
+use Rattle.demands.specs.Operations.{Op, Write, Read, Grant, Run, Round, SheetWriting, SheetReading, afterAll, said}
+use Rattle.demands.specs.Fairness.{grants, channels, Contends}
+
+pub data Expectation : Type 0 where
+  -- the grants go to these channels, in this order
+  Serves : List ℕ → Expectation
+  -- then a read of this register gives this byte
+  Reads : ℕ → ℕ → Expectation
+  -- then a run with these device bytes, limit 65,536 and this EOP gives this, as a function of the memory
+  Gives : List ℕ → ℕ → (List ℕ → Given) → Expectation
+  -- then this operation says this refusal number, 0 for none
+  Says : Op → ℕ → Expectation
+
+-- What is called from a state on, and what is expected; the bytes lent, a memory or a slice, are any list of this size.
+pub record Case : Type 0 where
+  pub size : ℕ
+  pub start : Controller
+  pub calls : List ℕ → List Op
+  pub expected : List ℕ → Expectation
+
+abbrev pub Meets : Controller → List Op → List ℕ → Expectation → Type 0
+Meets s ops m (Serves ns) = channels (grants s ops) ≡ ns
+Meets s ops m (Reads r b) = readOf (afterAll s ops) r .answer ≡ Value b
+Meets s ops m (Gives d eop f) = ranOf (afterAll s ops) m d [] 65536 eop ≡ f m
+Meets s ops m (Says o n) = said (afterAll s ops) o ≡ n
+
+abbrev pub Holds : Case → Type 0
+Holds c = (m : List ℕ) → length m ≡ c .size → Meets (c .start) (c .calls m) m (c .expected m)
+
+-- base address, address, base count, count, mode
+abbrev pub ch : ℕ → ℕ → ℕ → ℕ → ℕ → Channel
+ch ba a bn n mode = record { «base_address» = ba; address = a; «base_count» = bn; count = n; mode = mode }
+
+-- idle, with these first two channels and this command, TC bits, mask and temporary byte; line 0 is held
+abbrev pub idleWith : Channel → Channel → ℕ → ℕ → ℕ → ℕ → Controller
+idleWith c0 c1 command tc mask temporary =
+    make (c0 ∷ c1 ∷ blank ∷ blank ∷ [])
+    (but (but (but (but (but (but (λ (f : Field). 0) Command command) Tc tc) Mask mask) Temporary temporary) Pins 1) Lowest 3)
+
+-- "ended": the controller, transfers, device bytes used, states and the memory; no room was lent
+abbrev pub ends : Controller → ℕ → ℕ → ℕ → List ℕ → Given
+ends s transfers used states m =
+    given (record { controller = s; answer = Stopped Ended; transfers = transfers; used = used; written = 0; states = states }) m []
+
+-- channel 0 is granted from idle and run: its registers before and after, command, device bytes, EOP, TC bits and mask after,
+-- transfers, states, and the memory after
+abbrev pub service : Channel → Channel → ℕ → List ℕ → ℕ → ℕ → ℕ → ℕ → ℕ → (List ℕ → List ℕ) → Case
+service was is command device eop tc mask transfers states memory =
+    record {
+      size = 65536;
+      start = idleWith was blank command 0 14 0;
+      calls = λ m. Grant ∷ [];
+      expected = λ m. Gives device eop (λ (m : List ℕ). ends (idleWith is blank command tc mask 0) transfers (length device) states (memory m));
+    }
+
+-- count 0, block write, 5Ah at 1234h: one byte, address 1235h, count FFFFh, TC and mask set, 4 states
+abbrev pub p1 : Case
+p1 =
+    service (ch 0x1234 0x1234 0 0 0x84) (ch 0x1234 0x1235 0 0xFFFF 0x84) 0 (0x5A ∷ []) 0 1 15 1 4
+    (λ m. set m 0x1234 0x5A)
+
+-- up from FFFEh, count 3: FFFE, FFFF, 0000, 0001; 14 states, compressed 10
+abbrev pub p2 : Case
+p2 =
+    service (ch 0xFFFE 0xFFFE 3 3 0x84) (ch 0xFFFE 2 3 0xFFFF 0x84) 0 (1 ∷ 2 ∷ 3 ∷ 4 ∷ []) 0 1 15 4 14
+    (λ m. set (set (set (set m 0xFFFE 1) 0xFFFF 2) 0x0000 3) 0x0001 4)
+
+abbrev pub p2compressed : Case
+p2compressed =
+    service (ch 0xFFFE 0xFFFE 3 3 0x84) (ch 0xFFFE 2 3 0xFFFF 0x84) 8 (1 ∷ 2 ∷ 3 ∷ 4 ∷ []) 0 1 15 4 10
+    (λ m. set (set (set (set m 0xFFFE 1) 0xFFFF 2) 0x0000 3) 0x0001 4)
+
+-- down from 0001h, count 2: 0001, 0000, FFFF; 11 states
+abbrev pub p3 : Case
+p3 =
+    service (ch 1 1 2 2 0xA4) (ch 1 0xFFFE 2 0xFFFF 0xA4) 0 (1 ∷ 2 ∷ 3 ∷ []) 0 1 15 3 11
+    (λ m. set (set (set m 0x0001 1) 0x0000 2) 0xFFFF 3)
+
+-- the memory with the byte at a stored at b too
+abbrev pub copied : ℕ → ℕ → List ℕ → List ℕ
+copied a b m = set m b (getD m a 0)
+
+-- memory-to-memory, channel 1 count 2: three bytes, 24 states
+abbrev pub p4 : Case
+p4 =
+    record {
+      size = 65536;
+      start = idleWith (ch 0x10 0x10 0 0 0x80) (ch 0x20 0x20 2 2 0x84) 1 0 12 0;
+      calls = λ m. Grant ∷ [];
+      expected = λ m.
+          Gives [] 0
+          (λ (m : List ℕ).
+          let two = copied 0x11 0x21 (copied 0x10 0x20 m) in
+          ends (idleWith (ch 0x10 0x13 0 0 0x80) (ch 0x20 0x23 2 0xFFFF 0x84) 1 2 14 (getD two 0x12 0)) 3 0 24 (copied 0x12 0x22 two));
+    }
+
+-- rotating; all four single (verify) with count 9 and unmasked; these lines held: as a driver sets it up
+abbrev pub setUp : ℕ → List Op
+setUp lines =
+    Write 8 0x10
+    ∷ Write 11 0x40 ∷ Write 11 0x41 ∷ Write 11 0x42 ∷ Write 11 0x43
+    ∷ Write 12 0
+    ∷ Write 1 9 ∷ Write 1 0 ∷ Write 3 9 ∷ Write 3 0 ∷ Write 5 9 ∷ Write 5 0 ∷ Write 7 9 ∷ Write 7 0
+    ∷ Write 15 0
+    ∷ op.Pins lines
+    ∷ []
+
+-- so many services, each granted and run
+abbrev pub services : List ℕ → ℕ → List Op
+services m zero = []
+services m (suc k) = Grant ∷ Run m [] [] 65536 0 ∷ services m k
+
+-- fresh, rotating, four lines held unmasked, single, count 9: grants 0, 1, 2, 3, 0
+abbrev pub p5 : Case
+p5 =
+    record {
+      size = 65536;
+      start = fresh;
+      calls = λ m. setUp 15 ++ services m 5;
+      expected = λ m. Serves (0 ∷ 1 ∷ 2 ∷ 3 ∷ 0 ∷ []);
+    }
+
+-- lowest 1, lines 1 and 3 held: 3, 1, 3
+abbrev pub p6 : Case
+p6 =
+    record {
+      size = 65536;
+      start = put fresh Lowest 1;
+      calls = λ m. setUp 10 ++ services m 3;
+      expected = λ m. Serves (3 ∷ 1 ∷ 3 ∷ []);
+    }
+
+-- count 9, block, EOP at transfer 2: count 7, TC clear, mask set
+abbrev pub p7 : Case
+p7 =
+    service (ch 0 0 9 9 0x84) (ch 0 2 9 7 0x84) 0 (1 ∷ 2 ∷ []) 2 0 15 2 7
+    (λ m. set (set m 0 1) 1 2)
+
+-- autoinitialize, count 0: count 0 again, TC set, mask kept
+abbrev pub p8 : Case
+p8 = service (ch 0x40 0x40 0 0 0x94) (ch 0x40 0x40 0 0 0x94) 0 (7 ∷ []) 0 1 14 1 4 (λ m. set m 0x40 7)
+
+-- fresh but for command 40h, pins 0: status F0h
+abbrev pub p9 : Case
+p9 = record { size = 65536; start = put fresh Command 0x40; calls = λ m. []; expected = λ m. Reads 8 0xF0 }
+
+-- count FFFFh up (block, verify): 65,536 transfers; 196,864 states from 0000h, 196,865 from 0001h
+abbrev pub wholeFrom0 : Case
+wholeFrom0 = service (ch 0 0 0xFFFF 0xFFFF 0x80) (ch 0 0 0xFFFF 0xFFFF 0x80) 0 [] 0 1 15 65536 196864 (λ m. m)
+
+abbrev pub wholeFrom1 : Case
+wholeFrom1 = service (ch 1 1 0xFFFF 0xFFFF 0x80) (ch 1 1 0xFFFF 0xFFFF 0x80) 0 [] 0 1 15 65536 196865 (λ m. m)
+
+-- an operation called in a fresh state, and the number it says
+abbrev pub called : ℕ → (List ℕ → Op) → ℕ → Case
+called size o n = record { size = size; start = fresh; calls = λ m. []; expected = λ m. Says (o m) n }
+
+-- an operation called in an open service, line 0 held
+abbrev pub running : ℕ → (List ℕ → Op) → ℕ → Case
+running size o n =
+    record { size = size; start = idleWith (ch 0 0 0 0 0x80) blank 0 0 14 0; calls = λ m. Grant ∷ []; expected = λ m. Says (o m) n }
+
+-- "P marks the proved set."
+abbrev pub proved : List Case
+proved = p1 ∷ p2 ∷ p2compressed ∷ p3 ∷ p4 ∷ p5 ∷ p6 ∷ p7 ∷ p8 ∷ p9 ∷ []
+
+abbrev pub whole : List Case
+whole = wholeFrom0 ∷ wholeFrom1 ∷ []
+
+-- register 15 and 16; k 4,096 and 4,097; slices of 55 and 56; memories of 65,535, 65,536 and 65,537 for a run and for a round
+abbrev pub limits : List Case
+limits =
+    called 0 (λ m. Write 15 0) 0
+    ∷ called 0 (λ m. Write 16 0) 2
+    ∷ called 0 (λ m. Read 15) 4
+    ∷ called 65536 (λ m. Round m [] [] 4096) 0
+    ∷ called 65536 (λ m. Round m [] [] 4097) 2
+    ∷ called 55 (λ m. SheetWriting m) 9
+    ∷ called 56 (λ m. SheetWriting m) 0
+    ∷ called 55 (λ m. SheetReading m) 9
+    ∷ called 0 (λ m. SheetReading (sheetOf fresh)) 0
+    ∷ running 65535 (λ m. Run m [] [] 65536 0) 7
+    ∷ running 65536 (λ m. Run m [] [] 65536 0) 0
+    ∷ running 65537 (λ m. Run m [] [] 65536 0) 7
+    ∷ called 65535 (λ m. Round m [] [] 4096) 7
+    ∷ called 65537 (λ m. Round m [] [] 4096) 7
+    ∷ []
+
+abbrev pub cases : List Case
+cases = proved ++ (whole ++ limits)
+
+-- Every case holds.
+abbrev pub WorkedCases : Type 0
+WorkedCases = All Holds cases
+
+-- Demand 3's numbers can't be better: in P5 channel 3 contends at each grant, waits for three others, and is led by one.
+abbrev pub Tight : Type 0
+Tight = (m : List ℕ) → length m ≡ p5 .size → All (Contends 3) (grants (p5 .start) (p5 .calls m))

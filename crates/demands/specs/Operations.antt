@@ -1,0 +1,105 @@
+-- The public operations with their arguments: what each is lent, what it leaves, and what it says. Each by the definition that its contract cites.
+use Prim.Native.Nat.{ℕ}
+use mathlib.Core.List.{List, [], _∷_, _++_}
+use Rattle.am9517.specs.Answers.{numberOf, writeOf, readOf, pinsOf, resetOf, grantOf}
+use Rattle.am9517.specs.declared.Controller.{Controller}
+use Rattle.service.specs.declared.Ran.{Ran}
+use Rattle.service.specs.Answers.{Given, runNumberOf, ranOf}
+use Rattle.round.specs.declared.Rounded.{Rounded}
+use Rattle.round.specs.Answers.{RoundGiven, roundNumberOf, roundedOf}
+use Rattle.sheet.specs.Sheet.{Stored, sheetWriteOf, sheetReadOf}
+
+pub data Op : Type 0 where
+  -- register, byte
+  Write : ℕ → ℕ → Op
+  -- register
+  Read : ℕ → Op
+  -- levels
+  Pins : ℕ → Op
+  Reset : Op
+  Grant : Op
+  -- memory, device bytes, room, limit, EOP
+  Run : List ℕ → List ℕ → List ℕ → ℕ → ℕ → Op
+  -- memory, device bytes, room, k
+  Round : List ℕ → List ℕ → List ℕ → ℕ → Op
+  -- the target slice
+  SheetWriting : List ℕ → Op
+  -- the bytes
+  SheetReading : List ℕ → Op
+
+-- All that an operation may change; a part that it isn't lent is empty.
+pub record Scene : Type 0 where
+  pub controller : Controller
+  pub memory : List ℕ
+  pub room : List ℕ
+  pub slice : List ℕ
+
+abbrev pub scene : Controller → List ℕ → List ℕ → List ℕ → Scene
+scene s m r out = record { controller = s; memory = m; room = r; slice = out }
+
+abbrev pub before : Controller → Op → Scene
+before s (Write r b) = scene s [] [] []
+before s (Read r) = scene s [] [] []
+before s (Pins p) = scene s [] [] []
+before s Reset = scene s [] [] []
+before s Grant = scene s [] [] []
+before s (Run m d r limit eop) = scene s m r []
+before s (Round m d r k) = scene s m r []
+before s (SheetWriting out) = scene s [] [] out
+before s (SheetReading bytes) = scene s [] [] []
+
+abbrev pub ranScene : Given → Scene
+ranScene g = scene (g .ran .controller) (g .memory) (g .room) []
+
+abbrev pub roundScene : RoundGiven → Scene
+roundScene g = scene (g .rounded .controller) (g .memory) (g .room) []
+
+abbrev pub after : Controller → Op → Scene
+after s (Write r b) = scene (writeOf s r b .controller) [] [] []
+after s (Read r) = scene (readOf s r .controller) [] [] []
+after s (Pins p) = scene (pinsOf s p .controller) [] [] []
+after s Reset = scene (resetOf s .controller) [] [] []
+after s Grant = scene (grantOf s .controller) [] [] []
+after s (Run m d r limit eop) = ranScene (ranOf s m d r limit eop)
+after s (Round m d r k) = roundScene (roundedOf s m d r k)
+after s (SheetWriting out) = scene s [] [] (sheetWriteOf s out .bytes)
+after s (SheetReading bytes) = scene (sheetReadOf s bytes .controller) [] [] []
+
+-- the next state
+abbrev pub next : Controller → Op → Controller
+next s op = after s op .controller
+
+-- the state after these operations, called one after the other
+abbrev pub afterAll : Controller → List Op → Controller
+afterAll s [] = s
+afterAll s (op ∷ ops) = afterAll (next s op) ops
+
+-- the refusal number that the answer says, 0 for none
+abbrev pub said : Controller → Op → ℕ
+said s (Write r b) = numberOf (writeOf s r b .answer)
+said s (Read r) = numberOf (readOf s r .answer)
+said s (Pins p) = numberOf (pinsOf s p .answer)
+said s Reset = numberOf (resetOf s .answer)
+said s Grant = numberOf (grantOf s .answer)
+said s (Run m d r limit eop) = runNumberOf (ranOf s m d r limit eop .ran .answer)
+said s (Round m d r k) = roundNumberOf (roundedOf s m d r k .rounded .answer)
+said s (SheetWriting out) = numberOf (sheetWriteOf s out .answer)
+said s (SheetReading bytes) = numberOf (sheetReadOf s bytes .answer)
+
+abbrev pub ranCounts : Ran → List ℕ
+ranCounts r = r .transfers ∷ r .used ∷ r .written ∷ r .states ∷ []
+
+abbrev pub roundCounts : Rounded → List ℕ
+roundCounts r = r .services ++ (r .transfers ∷ r .used ∷ r .written ∷ r .states ∷ [])
+
+-- the counts that stand beside the answer
+abbrev pub counts : Controller → Op → List ℕ
+counts s (Write r b) = []
+counts s (Read r) = []
+counts s (Pins p) = []
+counts s Reset = []
+counts s Grant = []
+counts s (Run m d r limit eop) = ranCounts (ranOf s m d r limit eop .ran)
+counts s (Round m d r k) = roundCounts (roundedOf s m d r k .rounded)
+counts s (SheetWriting out) = []
+counts s (SheetReading bytes) = []

@@ -1,0 +1,26 @@
+-- Demand 2, the stored sheet: both round trips, and the sheet of a fresh controller.
+use Prim.Native.Nat.{ℕ}
+use mathlib.Core.Path.{_≡_}
+use mathlib.Core.List.{List, [], _∷_, _++_}
+use lib.ListN.{length, replicate}
+use Rattle.am9517.specs.State.{fresh}
+use Rattle.am9517.specs.declared.Controller.{Controller}
+use Rattle.am9517.specs.declared.Answer.the-variants.{Done}
+use Rattle.sheet.specs.Bytes.{OfBytes}
+use Rattle.sheet.specs.Sheet.{sheetOf, stored, sheetWriteOf, sheetReadOf}
+
+-- Four channels and bytes below 256 are the types [Channel; 4] and [u8]: every controller and every slice has them.
+pub record RoundTrips : Type 0 where
+  -- What was written is read back, whatever state t the reader had.
+  pub writtenRead : (s t : Controller) (out : List ℕ)
+      → length (s .channels) ≡ 4
+      → sheetWriteOf s out .answer ≡ Done
+      → sheetReadOf t (sheetWriteOf s out .bytes) ≡ record { controller = s; answer = Done }
+  -- What was read is written back: the slice holds the same bytes.
+  pub readWritten : (t : Controller) (bytes : List ℕ)
+      → OfBytes bytes
+      → sheetReadOf t bytes .answer ≡ Done
+      → sheetWriteOf (sheetReadOf t bytes .controller) bytes ≡ stored Done bytes
+  -- "The fresh sheet: all zero but byte 39 = 0Fh and 43 = 03h, then 01 00 30 00 12 00 44 4D."
+  pub freshSheet : sheetOf fresh
+      ≡ replicate 39 0 ++ (0x0F ∷ 0 ∷ 0 ∷ 0 ∷ 0x03 ∷ 0 ∷ 0 ∷ 0 ∷ 0 ∷ 0x01 ∷ 0x00 ∷ 0x30 ∷ 0x00 ∷ 0x12 ∷ 0x00 ∷ 0x44 ∷ 0x4D ∷ [])
