@@ -22,8 +22,8 @@ pub data Expectation : Type 0 where
   Serves : List ℕ → Expectation
   -- then a read of this register gives this byte
   Reads : ℕ → ℕ → Expectation
-  -- then a run with these device bytes, limit 65,536 and this EOP gives this, as a function of the memory
-  Gives : List ℕ → ℕ → (List ℕ → Given) → Expectation
+  -- then a run with these device bytes, limit 65,536 and this EOP gives this
+  Gives : List ℕ → ℕ → Given → Expectation
   -- then this operation says this refusal number, 0 for none
   Says : Op → ℕ → Expectation
 
@@ -37,7 +37,7 @@ pub record Case : Type 0 where
 abbrev pub Meets : Controller → List Op → List ℕ → Expectation → Type 0
 Meets s ops m (Serves ns) = channels (grants s ops) ≡ ns
 Meets s ops m (Reads r b) = readOf (afterAll s ops) r .answer ≡ Value b
-Meets s ops m (Gives d eop f) = ranOf (afterAll s ops) m d [] 65536 eop ≡ f m
+Meets s ops m (Gives d eop g) = ranOf (afterAll s ops) m d [] 65536 eop ≡ g
 Meets s ops m (Says o n) = said (afterAll s ops) o ≡ n
 
 abbrev pub Holds : Case → Type 0
@@ -66,7 +66,7 @@ service was is command device eop tc mask transfers states memory =
       size = 65536;
       start = idleWith was blank command 0 14 0;
       calls = λ m. Grant ∷ [];
-      expected = λ m. Gives device eop (λ (m : List ℕ). ends (idleWith is blank command tc mask 0) transfers (length device) states (memory m));
+      expected = λ m. Gives device eop (ends (idleWith is blank command tc mask 0) transfers (length device) states (memory m));
     }
 
 -- count 0, block write, 5Ah at 1234h: one byte, address 1235h, count FFFFh, TC and mask set, 4 states
@@ -104,10 +104,9 @@ p4 =
       start = idleWith (ch 0x10 0x10 0 0 0x80) (ch 0x20 0x20 2 2 0x84) 1 0 12 0;
       calls = λ m. Grant ∷ [];
       expected = λ m.
-          Gives [] 0
-          (λ (m : List ℕ).
           let two = copied 0x11 0x21 (copied 0x10 0x20 m) in
-          ends (idleWith (ch 0x10 0x13 0 0 0x80) (ch 0x20 0x23 2 0xFFFF 0x84) 1 2 14 (getD two 0x12 0)) 3 0 24 (copied 0x12 0x22 two));
+          Gives [] 0
+          (ends (idleWith (ch 0x10 0x13 0 0 0x80) (ch 0x20 0x23 2 0xFFFF 0x84) 1 2 14 (getD two 0x12 0)) 3 0 24 (copied 0x12 0x22 two));
     }
 
 -- rotating; all four single (verify) with count 9 and unmasked; these lines held: as a driver sets it up
