@@ -11,7 +11,7 @@ use Rattle.am9517.specs.declared.Answer.{Answer}
 use Rattle.am9517.specs.declared.Answer.the-variants.{Done, Value, Refused}
 use Rattle.am9517.specs.declared.Outcome.{Outcome}
 
--- the refusal number of each answer, 0 for none, and the byte read or channel granted
+-- the refusal number of each answer, 0 for none; a Value is the byte read or the channel granted
 abbrev pub numberOf : Answer → ℕ
 numberOf Done = 0
 numberOf (Value v) = 0

@@ -6,6 +6,7 @@ use Rattle.words.specs.Bits.{bit}
 use Rattle.am9517.specs.declared.Controller.{Controller}
 
 -- "Bit 0 memory-to-memory, 1 channel 0 address hold, 2 disable, 3 compressed, 4 rotating, 6 DREQ active low."
+-- "Bits 5 and 7 of the command are stored and have no other effect."
 abbrev pub memoryToMemory : Controller → Bool
 memoryToMemory s = eqb (bit (s .command) 0) 1
 

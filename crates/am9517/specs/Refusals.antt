@@ -8,6 +8,11 @@ use Rattle.am9517.specs.Ranges.{valid, modeRefused}
 use Rattle.am9517.specs.Serving.{picked}
 use Rattle.am9517.specs.declared.Controller.{Controller}
 
+-- 1 "the state breaks a range of the sheet section"; 2 "register number over 15, pins over 15 ..";
+-- 3 "register access, grant or round during a service"; 4 "read of 9, A, B, C, E, F, or write of E";
+-- 5 "mode byte with bits 3-2 = 11 and bits 7-6 not 11"; 6 "grant with no entitled channel".
+-- "When several hold: write 1, 2, 3, 4, 5; read 1, 2, 3, 4; pins 1, 2; reset 1; grant 1, 3, 6 .."
+
 -- the number of the first ground that holds; 0 where none does
 unfoldable pub refusal : List (Ground ℕ) → ℕ
 refusal gs = first gs 0
@@ -31,6 +36,7 @@ writeGrounds s r b =
 abbrev pub readGrounds : Controller → ℕ → List (Ground ℕ)
 readGrounds s r = 1 if not (valid s) ∷ 2 if ltb 15 r ∷ 3 if busy s ∷ 4 if unreadable r ∷ []
 
+-- "Pins may change during a service": no ground 3
 abbrev pub pinsGrounds : Controller → ℕ → List (Ground ℕ)
 pinsGrounds s p = 1 if not (valid s) ∷ 2 if ltb 15 p ∷ []
 

@@ -14,15 +14,16 @@ use Rattle.am9517.specs.declared.Controller.{Controller}
 unfoldable pub active : Controller → ℕ → Bool
 active s n = not (eqb (bit (s .pins) n) (bit (s .command) 6))
 
--- "its request bit is set and its mode is block (elsewhere the bit is kept and not counted)"
+-- ".. its request bit is set and its mode is block (*ruling*: elsewhere the bit is kept and not counted)."
 unfoldable pub counted : Controller → ℕ → Bool
 counted s n = eqb (bit (s .request) n) 1 && eqb (serviceOf (channel s n .mode)) 2
 
--- "A channel requests when its line is active, or its request bit is set and its mode is block."
+-- "A channel requests when its line is active, or its request bit is set and its mode is block .."
 unfoldable pub requests : Controller → ℕ → Bool
 requests s n = active s n || counted s n
 
--- "It is entitled when command bit 2 is 0 and either its line is active and its mask bit 0, or its request bit counts."
+-- "It is entitled when command bit 2 is 0 and either its line is active and its mask bit 0, or its request bit counts
+-- (software requests can't be masked)."
 unfoldable pub entitled : Controller → ℕ → Bool
 entitled s n = not (disabled s) && (active s n && eqb (bit (s .mask) n) 0 || counted s n)
 
@@ -30,7 +31,7 @@ entitled s n = not (disabled s) && (active s n && eqb (bit (s .mask) n) 0 || cou
 unfoldable pub setOf : (ℕ → Bool) → ℕ
 setOf f = when (f 0) 1 0 + when (f 1) 2 0 + when (f 2) 4 0 + when (f 3) 8 0
 
--- "Bits 0-3 the TC bits; bits 4-7 the requesting channels, masked or not."
+-- "8 read: status. Bits 0-3 the TC bits, cleared by this read; bits 4-7 the requesting channels, masked or not."
 unfoldable pub status : Controller → ℕ
 status s = s .tc + 16 * setOf (requests s)
 
@@ -48,7 +49,8 @@ picked s =
     ∷ turn s 3 if entitled s (turn s 3)
     ∷ []) 4
 
--- "Under rotation the granted channel becomes lowest at the grant; a fixed grant leaves the lowest as it is. The latch is emptied."
+-- "Under rotation the granted channel becomes lowest at the grant; a fixed grant leaves the lowest as it is (*ruling*).
+-- The latch is emptied."
 unfoldable pub granted : Controller → ℕ → Controller
 granted s n =
     let t = put s Lowest (when (rotating s) n (s .lowest)) in

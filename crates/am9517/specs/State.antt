@@ -11,7 +11,7 @@ use Rattle.am9517.specs.declared.Controller.{Controller}
 pub data Field : Type 0 where
   Command Tc Request Mask Temporary FlipFlop Pins Lowest InService Serving LatchFull Latch : Field
 
--- tells two fields apart
+-- tells two fields apart: help for `but`, no rule
 abbrev pub tag : Field → ℕ
 tag Command = 0
 tag Tc = 1
@@ -88,8 +88,8 @@ fresh = make (blank ∷ blank ∷ blank ∷ blank ∷ []) (but (but (λ (f : Fie
 abbrev pub ended : Controller → Controller
 ended s = put (put (put (put s InService 0) Serving 0) LatchFull 0) Latch 0
 
--- "Reset clears command, TC bits, request bits, temporary byte and flip-flop, sets all mask bits and ends any service;
--- lowest becomes 3; addresses, counts, modes and pins stay."
+-- "Reset clears command, TC bits, request bits, temporary byte and flip-flop, sets all mask bits and ends any service (000);
+-- lowest becomes 3; addresses, counts, modes and pins stay (*ruling*)."
 abbrev pub cleared : Controller → Controller
 cleared s =
     let t = put (put (put (put (put s Command 0) Tc 0) Request 0) Temporary 0) FlipFlop 0 in

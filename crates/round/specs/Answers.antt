@@ -37,7 +37,7 @@ closed k =
     (record { controller = w .controller; answer = k .answer; services = w .services; transfers = w .transfers; used = w .used; written = w .written; states = w .states })
     (w .memory) (w .room)
 
--- "2: more than 4,096 services asked for"; "round 1, 2, 7, 3"
+-- 2 ".. more than 4,096 services asked for"; "round 1, 2, 7, 3"
 abbrev pub roundGrounds : Controller → List ℕ → ℕ → List (Ground ℕ)
 roundGrounds c m k = 1 if not (valid c) ∷ 2 if ltb 4096 k ∷ 7 if wrongSize m ∷ 3 if busy c ∷ []
 

@@ -1,4 +1,5 @@
 -- Document 01, "A round".
 pub mod Round
 pub mod Answers
+-- help for laws and private contracts: no rule stands there
 pub mod Needs

@@ -40,7 +40,7 @@ stopped s =
 abbrev pub refusedOf : Controller → ℕ → Ran
 refusedOf c n = record { controller = c; answer = Refused n; transfers = 0; used = 0; written = 0; states = 0 }
 
--- "7: memory not of 65,536 bytes"
+-- 7 "memory not of 65,536 bytes"; 8 "run with no service open"; "run 1, 7, 8"
 abbrev pub wrongSize : List ℕ → Bool
 wrongSize m = not (eqb (length m) 65536)
 

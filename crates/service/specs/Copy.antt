@@ -1,4 +1,4 @@
--- "Memory-to-memory": one transfer of it.
+-- "Memory-to-memory": one transfer of it. When a service is one, World `copies` says; what stops it, Stops; its end, Ends `over`.
 use Prim.Native.Nat.{ℕ, _+_}
 use mathlib.Core.List.{List}
 use lib.ListN.{getD, set}
@@ -18,8 +18,8 @@ source c =
     let ch = channel c 0 in
     at ch (when (addressHold c) (ch .address) (step 16 (decrement (ch .mode)) (ch .address))) (ch .count)
 
--- "byte at channel 0's address to the temporary byte, then to channel 1's address; both step as their mode bit 5 says.
--- Channel 1's count steps."
+-- "byte at channel 0's address to the temporary byte, then to channel 1's address; both step as their mode bit 5 says, but channel 0
+-- stays under command bit 1. Channel 1's count steps .."
 unfoldable pub copied : World → World
 copied w =
     let c = w .controller in

@@ -18,7 +18,7 @@ use Rattle.service.specs.Transfer.{at}
 unfoldable pub runner : Controller → ℕ
 runner c = when (copies c) 1 (c .serving)
 
--- "from 0 it becomes FFFFh, which is TC": so the transfer before which the count is 0
+-- "from 0 it becomes FFFFh, which is TC. So count N gives N+1 transfers": TC is met by the transfer before which the count is 0
 abbrev pub reachesTc : Controller → Bool
 reachesTc c = eqb (channel c (runner c) .count) 0
 
@@ -26,8 +26,8 @@ reachesTc c = eqb (channel c (runner c) .count) 0
 abbrev pub restored : Channel → Channel
 restored ch = at ch (ch .«base_address») (ch .«base_count»)
 
--- "TC sets the TC bit. External EOP alone does not. On either or both, the service ends, the request bit is cleared, and the channel
--- either restores current from base (autoinitialize) or sets its mask bit."
+-- "TC sets the TC bit. External EOP alone does not (000). On either or both, the service ends, the request bit is cleared, and the
+-- channel either restores current from base (autoinitialize) or sets its mask bit."
 unfoldable pub finished : Controller → ℕ → Bool → Controller
 finished c n tc =
     let t = put (put c Tc (when tc (withBit (c .tc) n true) (c .tc))) Request (withBit (c .request) n false) in

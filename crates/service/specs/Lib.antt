@@ -7,5 +7,6 @@ pub mod Copy
 pub mod States
 pub mod Run
 pub mod Answers
+-- help for laws and private contracts: no rule stands there
 pub mod Closed
 pub mod Needs

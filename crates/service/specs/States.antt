@@ -9,7 +9,7 @@ use Rattle.am9517.specs.State.{put, Field, LatchFull, Latch}
 use Rattle.am9517.specs.Modes.{compressed}
 use Rattle.am9517.specs.declared.Controller.{Controller}
 
--- the states of a transfer whose upper address byte is latched
+-- the states of a transfer without S1: S2, S3 and S4; compressed leaves S3 out
 unfoldable pub plain : Controller → ℕ
 plain c = when (compressed c) 2 3
 

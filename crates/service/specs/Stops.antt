@@ -23,8 +23,9 @@ short w d =
     eqb (typeOf (server (w .controller) .mode)) 1 && leb (length d) (w .used)
     || eqb (typeOf (server (w .controller) .mode)) 2 && leb (length (w .room)) (w .written)
 
--- "1. demand or cascade with the line inactive: service ends, dropped; 2. cascade: stop; 3. limit reached: stop; 4. short: stop";
--- in memory-to-memory "steps 1, 2 and 4 don't apply"
+-- 1. "demand or cascade with the line inactive: service ends, "dropped""; 2. "cascade: stop, "cascade"; service stays open, nothing
+-- moves"; 3. "limit reached: stop, "limit"; service stays open"; 4. "a write with no device byte left, or a read with no room left:
+-- stop, "short"; service stays open". In memory-to-memory "steps 1, 2 and 4 don't apply".
 unfoldable pub stops : World → List ℕ → ℕ → List (Ground Stop)
 stops w d left =
     when (copies (w .controller))

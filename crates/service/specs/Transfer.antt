@@ -30,7 +30,7 @@ abbrev pub reads : Channel → Bool
 reads ch = eqb (typeOf (ch .mode)) 2
 
 -- "verify moves nothing; write stores the next device byte at the current address;
--- read puts that memory byte in the next place of the room"
+-- read puts that memory byte in the next place of the room"; "Room behind the last byte written isn't touched."
 unfoldable pub moved : World → List ℕ → World
 moved w d =
     let c = w .controller in

@@ -7,6 +7,7 @@ module _ {A : Type 0} where
   when true a b = a
   when false a b = b
 
+-- both hold: the same as _&&_, but shut
 infixr 35 _and_
 unfoldable pub _and_ : Bool → Bool → Bool
 a and b = a && b
