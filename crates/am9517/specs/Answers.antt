@@ -17,7 +17,7 @@ numberOf Done = 0
 numberOf (Value v) = 0
 numberOf (Refused n) = n
 
--- refused by n, the state as it was; or, with n zero, the next state and what is told of it
+-- refused by n: the paper's number, and the state as it was; or, with n zero, the next state and what is told of it
 unfoldable pub outcome : ℕ → Controller → Controller → Answer → Outcome
 outcome n was next told =
     record { controller = when (eqb n 0) next was; answer = when (eqb n 0) told (Refused n) }
