@@ -4,7 +4,7 @@ use lib.Dec.{eqb}
 use Rattle.words.specs.Choice.{when}
 use Rattle.am9517.specs.State.{put, cleared, Field, Pins}
 use Rattle.am9517.specs.Serving.{picked, granted}
-use Rattle.am9517.specs.Registers.{written, value, afterRead}
+use Rattle.am9517.specs.Registers.{afterWrite, value, afterRead}
 use Rattle.am9517.specs.Refusals.{refusal, writeGrounds, readGrounds, pinsGrounds, resetGrounds, grantGrounds}
 use Rattle.am9517.specs.declared.Controller.{Controller}
 use Rattle.am9517.specs.declared.Answer.{Answer}
@@ -23,7 +23,7 @@ outcome n was next told =
     record { controller = when (eqb n 0) next was; answer = when (eqb n 0) told (Refused n) }
 
 abbrev pub writeOf : Controller → ℕ → ℕ → Outcome
-writeOf s r b = outcome (refusal (writeGrounds s r b)) s (written s r b) Done
+writeOf s r b = outcome (refusal (writeGrounds s r b)) s (afterWrite s r b) Done
 
 abbrev pub readOf : Controller → ℕ → Outcome
 readOf s r = outcome (refusal (readGrounds s r)) s (afterRead s r) (Value (value s r))

@@ -1,15 +1,11 @@
 -- Document 01, "The stored sheet": the ranges of a state. One that breaks a range is refused by 1.
-use Prim.Native.Nat.{ℕ, _/_, _%_}
+use Prim.Native.Nat.{ℕ, _%_}
 use mathlib.Core.Bool.{Bool, not, _&&_, _||_}
 use lib.Dec.{leb, eqb}
 use Rattle.words.specs.Choice.{_and_}
 use Rattle.am9517.specs.State.{channel}
-use Rattle.am9517.specs.Modes.{typeOf, serviceOf}
+use Rattle.am9517.specs.Modes.{modeRefused}
 use Rattle.am9517.specs.declared.Controller.{Controller}
-
--- refused by 5: "mode byte with bits 3-2 = 11 and bits 7-6 not 11"
-abbrev pub modeRefused : ℕ → Bool
-modeRefused m = eqb (typeOf m) 3 && not (eqb (serviceOf m) 3)
 
 -- "mode bits 1-0 zero and not refused by 5"
 unfoldable pub modeValid : ℕ → Bool

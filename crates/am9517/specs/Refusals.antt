@@ -4,7 +4,8 @@ use mathlib.Core.Bool.{Bool, not, _&&_}
 use mathlib.Core.List.{List, [], _∷_}
 use lib.Dec.{ltb, leb, eqb}
 use Rattle.words.specs.Grounds.{Ground, _if_, first}
-use Rattle.am9517.specs.Ranges.{valid, modeRefused}
+use Rattle.am9517.specs.Modes.{modeRefused}
+use Rattle.am9517.specs.Ranges.{valid}
 use Rattle.am9517.specs.Serving.{picked}
 use Rattle.am9517.specs.declared.Controller.{Controller}
 

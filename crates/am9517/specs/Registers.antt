@@ -67,8 +67,8 @@ modeWritten s b = withChannel s (b % 4) (withMode (channel s (b % 4)) (b - b % 4
 -- what an accepted write of b to register r stores. "8 write: command. 9 write: request bit of channel (bits 1-0) becomes bit 2.
 -- A write: the same for the mask bit. F write: bits 3-0 become the mask. B write: mode of channel (bits 1-0) .. C write clears the
 -- flip-flop. .. D write: master clear, as reset."
-unfoldable pub written : Controller → ℕ → ℕ → Controller
-written s r b =
+unfoldable pub afterWrite : Controller → ℕ → ℕ → Controller
+afterWrite s r b =
     first (
     portWritten s r b if ltb r 8
     ∷ put s Command b if eqb r 8

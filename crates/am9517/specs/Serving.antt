@@ -15,17 +15,17 @@ unfoldable pub active : Controller → ℕ → Bool
 active s n = not (eqb (bit (s .pins) n) (bit (s .command) 6))
 
 -- ".. its request bit is set and its mode is block (*ruling*: elsewhere the bit is kept and not counted)."
-unfoldable pub counted : Controller → ℕ → Bool
-counted s n = eqb (bit (s .request) n) 1 && eqb (serviceOf (channel s n .mode)) 2
+unfoldable pub requestCounts : Controller → ℕ → Bool
+requestCounts s n = eqb (bit (s .request) n) 1 && eqb (serviceOf (channel s n .mode)) 2
 
 -- "A channel requests when its line is active, or its request bit is set and its mode is block .."
 unfoldable pub requests : Controller → ℕ → Bool
-requests s n = active s n || counted s n
+requests s n = active s n || requestCounts s n
 
 -- "It is entitled when command bit 2 is 0 and either its line is active and its mask bit 0, or its request bit counts
 -- (software requests can't be masked)."
 unfoldable pub entitled : Controller → ℕ → Bool
-entitled s n = not (disabled s) && (active s n && eqb (bit (s .mask) n) 0 || counted s n)
+entitled s n = not (disabled s) && (active s n && eqb (bit (s .mask) n) 0 || requestCounts s n)
 
 -- four bits that say for which channels f holds
 unfoldable pub setOf : (ℕ → Bool) → ℕ
@@ -36,17 +36,17 @@ unfoldable pub status : Controller → ℕ
 status s = s .tc + 16 * setOf (requests s)
 
 -- "fixed order 0, 1, 2, 3, or, rotating, from the one after the lowest, going round": who is asked k-th, from 0
-abbrev pub turn : Controller → ℕ → ℕ
-turn s k = (when (rotating s) (s .lowest + 1) 0 + k) % 4
+abbrev pub asked : Controller → ℕ → ℕ
+asked s k = (when (rotating s) (s .lowest + 1) 0 + k) % 4
 
 -- "A grant takes the first entitled channel"; 4 where there is none
 unfoldable pub picked : Controller → ℕ
 picked s =
     first (
-    turn s 0 if entitled s (turn s 0)
-    ∷ turn s 1 if entitled s (turn s 1)
-    ∷ turn s 2 if entitled s (turn s 2)
-    ∷ turn s 3 if entitled s (turn s 3)
+    asked s 0 if entitled s (asked s 0)
+    ∷ asked s 1 if entitled s (asked s 1)
+    ∷ asked s 2 if entitled s (asked s 2)
+    ∷ asked s 3 if entitled s (asked s 3)
     ∷ []) 4
 
 -- "Under rotation the granted channel becomes lowest at the grant; a fixed grant leaves the lowest as it is (*ruling*).

@@ -83,7 +83,7 @@ impl Controller {
         if no != 0 {
             return self.refused(no);
         }
-        let next = self.written(reg, byte);
+        let next = self.after_write(reg, byte);
         Outcome {
             controller: next,
             answer: Answer::Done,

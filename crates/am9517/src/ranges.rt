@@ -1,7 +1,8 @@
 // The ranges of a state.
 use crate::Controller;
 ghost use mathlib.Core.Path.{_≡_};
-ghost use Rattle.am9517.specs.Ranges.{modeRefused, modeValid, modesValid, fieldsValid, serviceValid, valid};
+ghost use Rattle.am9517.specs.Modes.{modeRefused};
+ghost use Rattle.am9517.specs.Ranges.{modeValid, modesValid, fieldsValid, serviceValid, valid};
 
 pub(crate) fn mode_refused(mode: u8) -> bool
     ensures { λ r. ⌜ r ≡ modeRefused mode ⌝ }

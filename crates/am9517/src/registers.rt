@@ -9,7 +9,7 @@ use words::choice::when;
 use words::choice::when_word;
 ghost use mathlib.Core.Path.{_≡_};
 ghost use Prim.Native.Nat.{_<_, _≤_};
-ghost use Rattle.am9517.specs.Registers.{turnedOver, withAddressByte, withCountByte, portWritten, portRead, modeWritten, written, value, afterRead};
+ghost use Rattle.am9517.specs.Registers.{turnedOver, withAddressByte, withCountByte, portWritten, portRead, modeWritten, afterWrite, value, afterRead};
 
 impl Channel {
     fn with_address_byte(self, high: bool, b: u8) -> Channel
@@ -80,8 +80,8 @@ impl Controller {
         next
     }
 
-    pub(crate) fn written(self, reg: u32, byte: u8) -> Controller
-        ensures { λ r. ⌜ r ≡ written self reg byte ⌝ }
+    pub(crate) fn after_write(self, reg: u32, byte: u8) -> Controller
+        ensures { λ r. ⌜ r ≡ afterWrite self reg byte ⌝ }
     {
         if reg < 8 {
             return self.port_written(reg, byte);

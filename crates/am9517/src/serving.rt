@@ -6,7 +6,7 @@ use words::choice::when_size;
 ghost use mathlib.Core.Path.{_≡_};
 ghost use Prim.Native.Nat.{_+_, _<_, _≤_};
 ghost use Rattle.am9517.specs.Modes.{rotating};
-ghost use Rattle.am9517.specs.Serving.{active, counted, requests, entitled, setOf, status, turn, picked, granted};
+ghost use Rattle.am9517.specs.Serving.{active, requestCounts, requests, entitled, setOf, status, asked, picked, granted};
 ghost use Rattle.words.specs.Choice.{when};
 
 // Four bits: the weight of each that is set.
@@ -25,9 +25,9 @@ impl Controller {
     }
 
     // The request bit of channel n counts.
-    fn counted(self, n: usize) -> bool
+    fn request_counts(self, n: usize) -> bool
         requires { ⌜ n < 4 ⌝ }
-        ensures { λ r. ⌜ r ≡ counted self n ⌝ }
+        ensures { λ r. ⌜ r ≡ requestCounts self n ⌝ }
     {
         let mode = self.channels[n].mode;
         (bit(self.request, n) == 1) & (mode / 64 == 2)
@@ -37,7 +37,7 @@ impl Controller {
         requires { ⌜ n < 4 ⌝ }
         ensures { λ r. ⌜ r ≡ requests self n ⌝ }
     {
-        self.active(n) | self.counted(n)
+        self.active(n) | self.request_counts(n)
     }
 
     fn entitled(self, n: usize) -> bool
@@ -45,7 +45,7 @@ impl Controller {
         ensures { λ r. ⌜ r ≡ entitled self n ⌝ }
     {
         let unmasked = bit(self.mask, n) == 0;
-        (self.command / 4 % 2 != 1) & (self.active(n) & unmasked | self.counted(n))
+        (self.command / 4 % 2 != 1) & (self.active(n) & unmasked | self.request_counts(n))
     }
 
     // The entitled channels, as four bits.
@@ -81,9 +81,9 @@ impl Controller {
     }
 
     // The channel that is asked k-th.
-    fn turn(self, k: usize) -> u8
+    fn asked(self, k: usize) -> u8
         requires { ⌜ k < 4 ⌝ }
-        ensures { λ r. ⌜ r ≡ turn self k ⌝ }
+        ensures { λ r. ⌜ r ≡ asked self k ⌝ }
     {
         let from = when_size(self.rotating(), self.lowest as usize + 1, 0);
         ((from + k) % 4) as u8
@@ -93,10 +93,10 @@ impl Controller {
     pub fn picked(self) -> u8
         ensures { λ r. ⌜ r ≡ picked self ⌝ }
     {
-        let first = self.turn(0);
-        let second = self.turn(1);
-        let third = self.turn(2);
-        let fourth = self.turn(3);
+        let first = self.asked(0);
+        let second = self.asked(1);
+        let third = self.asked(2);
+        let fourth = self.asked(3);
         let n = when(self.entitled(fourth as usize), fourth, 4);
         let n = when(self.entitled(third as usize), third, n);
         let n = when(self.entitled(second as usize), second, n);

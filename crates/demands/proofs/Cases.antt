@@ -18,17 +18,17 @@ use Rattle.am9517.specs.declared.Channel.{Channel}
 use Rattle.am9517.specs.declared.Answer.{Answer}
 use Rattle.am9517.specs.declared.Answer.the-variants.{Value}
 use Rattle.am9517.specs.Ranges.{modeValid, modesValid, fieldsValid, serviceValid, valid}
-use Rattle.am9517.specs.Registers.{portWritten, portRead, modeWritten, written, value, afterRead}
-use Rattle.am9517.specs.Serving.{active, counted, requests, entitled, setOf, status, picked, granted}
+use Rattle.am9517.specs.Registers.{portWritten, portRead, modeWritten, afterWrite, value, afterRead}
+use Rattle.am9517.specs.Serving.{active, requestCounts, requests, entitled, setOf, status, picked, granted}
 use Rattle.am9517.specs.Refusals.{refusal, idle, busy}
 use Rattle.am9517.specs.Answers.{outcome, grantOf}
 use Rattle.am9517.specs.declared.Controller.{Controller}
-use Rattle.service.specs.World.{Stop, stop, startOf, withController, copies}
+use Rattle.service.specs.World.{Stop, stop, startOf, withController, memoryToMemory}
 use Rattle.service.specs.Stops.{dropped, short, stops}
-use Rattle.service.specs.States.{plain, latches, cost}
+use Rattle.service.specs.States.{statesWithoutS1, needsS1, cost}
 use Rattle.service.specs.Transfer.{moved}
 use Rattle.service.specs.Copy.{copied}
-use Rattle.service.specs.Ends.{runner, finished, over, single}
+use Rattle.service.specs.Ends.{runner, finished, afterTcOrEop, single}
 use Rattle.service.specs.Run.{transferred, runOf}
 use Rattle.service.specs.Answers.{given, stopped, refusedOf, wrongSize, runGrounds, ranOf}
 use Rattle.service.specs.Closed.{least, untilEnd, stockOf, along, onward, entered, statesOf, travelled, reached, closing}
@@ -93,8 +93,8 @@ p5-grants : (m : List ℕ) → length m ≡ 65536
     → grants (at 15 3 0 0 0 0) (services m 5)
     ≡ to (at 15 3 0 0 0 0) 0 ∷ to (at 15 0 1 0 0 0) 1 ∷ to (at 15 1 1 1 0 0) 2 ∷ to (at 15 2 1 1 1 0) 3 ∷ to (at 15 3 1 1 1 1) 0 ∷ []
 unfolding
-    when _and_ first withBit stride step modeValid modesValid fieldsValid serviceValid valid active counted entitled picked granted refusal outcome copies dropped short stops
-    plain latches cost moved runner finished over single transferred runOf
+    when _and_ first withBit stride step modeValid modesValid fieldsValid serviceValid valid active requestCounts entitled picked granted refusal outcome memoryToMemory dropped short stops
+    statesWithoutS1 needsS1 cost moved runner finished afterTcOrEop single transferred runOf
 p5-grants m h =
     served m h (at 15 3 0 0 0 0) (at 15 0 1 0 0 0) 0 4 _ refl refl
     (served m h (at 15 0 1 0 0 0) (at 15 1 1 1 0 0) 1 3 _ refl refl
@@ -105,8 +105,8 @@ p5-grants m h =
 p6-grants : (m : List ℕ) → length m ≡ 65536
     → grants (at 10 1 0 0 0 0) (services m 3) ≡ to (at 10 1 0 0 0 0) 3 ∷ to (at 10 3 0 0 0 1) 1 ∷ to (at 10 1 0 1 0 1) 3 ∷ []
 unfolding
-    when _and_ first withBit stride step modeValid modesValid fieldsValid serviceValid valid active counted entitled picked granted refusal outcome copies dropped short stops
-    plain latches cost moved runner finished over single transferred runOf
+    when _and_ first withBit stride step modeValid modesValid fieldsValid serviceValid valid active requestCounts entitled picked granted refusal outcome memoryToMemory dropped short stops
+    statesWithoutS1 needsS1 cost moved runner finished afterTcOrEop single transferred runOf
 p6-grants m h =
     served m h (at 10 1 0 0 0 0) (at 10 3 0 0 0 1) 3 2 _ refl refl
     (served m h (at 10 3 0 0 0 1) (at 10 1 0 1 0 1) 1 1 _ refl refl (served m h (at 10 1 0 1 0 1) (at 10 3 0 1 0 2) 3 0 [] refl refl refl))
@@ -114,7 +114,7 @@ p6-grants m h =
 -- where the set-up leads
 set-up : (afterAll fresh (setUp 15) ≡ at 15 3 0 0 0 0) × (afterAll (put fresh Lowest 1) (setUp 10) ≡ at 10 1 0 0 0 0)
 unfolding
-    when _and_ first withByte modeValid modesValid fieldsValid serviceValid valid portWritten modeWritten written refusal outcome
+    when _and_ first withByte modeValid modesValid fieldsValid serviceValid valid portWritten modeWritten afterWrite refusal outcome
 set-up = (refl, refl)
 
 p5-calls : (m : List ℕ) → length m ≡ 65536 → grants (p5 .start) (p5 .calls m)
@@ -159,21 +159,21 @@ module _ (a : ℕ) (below : a < 65536) (m : List ℕ) where
   whole-run : runOf 65536 0 [] (startOf start m [])
       ≡ stop (withController (reached start m [] [] 65536) (closing (reached start m [] [] 65536 .controller) (reached start m [] [] 65536 .controller .serving) true false)) Ended
   unfolding
-      when _and_ first modeValid modesValid fieldsValid serviceValid valid active counted entitled picked granted refusal outcome copies dropped least untilEnd stockOf
+      when _and_ first modeValid modesValid fieldsValid serviceValid valid active requestCounts entitled picked granted refusal outcome memoryToMemory dropped least untilEnd stockOf
   whole-run = run-ends start m [] [] 65536 0 refl refl refl below (omega arith) 65536 refl (omega arith)
 
 whole-cases : All Holds whole
 unfolding
-    when _and_ first withBit stride steps modeValid modesValid fieldsValid serviceValid valid active counted entitled picked granted refusal outcome
-    plain latches finished along onward entered statesOf travelled reached stopped
+    when _and_ first withBit stride steps modeValid modesValid fieldsValid serviceValid valid active requestCounts entitled picked granted refusal outcome
+    statesWithoutS1 needsS1 finished along onward entered statesOf travelled reached stopped
 whole-cases =
     also (λ m h. ran-whole _ m [] 0 refl refl h ∙ ap stopped (whole-run 0 (omega arith) m) ∙ refl)
     (also (λ m h. ran-whole _ m [] 0 refl refl h ∙ ap stopped (whole-run 1 (omega arith) m) ∙ refl) none)
 
 proved-cases : All Holds proved
 unfolding
-    when _and_ first withBit byteOf withByte stride step modeValid modesValid fieldsValid serviceValid valid portWritten portRead modeWritten written value afterRead
-    active counted requests entitled setOf status picked granted refusal outcome copies dropped short stops plain latches cost moved copied runner finished over single
+    when _and_ first withBit byteOf withByte stride step modeValid modesValid fieldsValid serviceValid valid portWritten portRead modeWritten afterWrite value afterRead
+    active requestCounts requests entitled setOf status picked granted refusal outcome memoryToMemory dropped short stops statesWithoutS1 needsS1 cost moved copied runner finished afterTcOrEop single
     transferred runOf stopped
 proved-cases =
     also (λ m h. ran-whole _ m _ _ refl refl h ∙ refl)
@@ -189,7 +189,7 @@ proved-cases =
 
 limit-cases : All Holds limits
 unfolding
-    when _and_ first modeValid modesValid fieldsValid serviceValid valid active counted entitled picked granted refusal outcome total bodyOf stateOf
+    when _and_ first modeValid modesValid fieldsValid serviceValid valid active requestCounts entitled picked granted refusal outcome total bodyOf stateOf
 limit-cases =
     also (λ m h. refl)
     (also (λ m h. refl)
@@ -214,7 +214,7 @@ pub worked-cases : WorkedCases
 worked-cases = all-both proved-cases (all-both whole-cases limit-cases)
 
 pub tight : Tight
-unfolding active counted entitled
+unfolding active requestCounts entitled
 tight m h =
     subst (All (Contends 3)) (sym (p5-calls m h))
     (also (record { rotation = refl; entitled = refl })

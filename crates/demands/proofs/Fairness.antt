@@ -11,7 +11,7 @@ use Rattle.words.specs.Choice.{when}
 use Rattle.words.specs.Grounds.{_if_, first}
 use Rattle.am9517.specs.Modes.{rotating}
 use Rattle.am9517.specs.Ranges.{valid}
-use Rattle.am9517.specs.Registers.{portWritten, modeWritten, written, afterRead}
+use Rattle.am9517.specs.Registers.{portWritten, modeWritten, afterWrite, afterRead}
 use Rattle.am9517.specs.Serving.{entitled, picked, granted}
 use Rattle.am9517.specs.Refusals.{refusal, grantGrounds}
 use Rattle.am9517.specs.Answers.{outcome}
@@ -48,9 +48,9 @@ module _ (s : Controller) where
   abbrev Kept : Controller → Type 0
   Kept t = t .lowest ≡ s .lowest
 
-  written-kept : (r b : ℕ) → ¬ (r ≡ 13) → Kept (written s r b)
-  unfolding written portWritten modeWritten first
-  written-kept r b n =
+  afterWrite-kept : (r b : ℕ) → ¬ (r ≡ 13) → Kept (afterWrite s r b)
+  unfolding afterWrite portWritten modeWritten first
+  afterWrite-kept r b n =
       when-both Kept _ refl
       (when-both Kept _ refl
       (when-both Kept _ refl
@@ -81,7 +81,7 @@ module _ (s : Controller) where
       go false e = ap (λ (g : Given). g .ran .controller .lowest) (run-refused s m d r limit eop _ refl (eqb-false _ _ e))
 
 pub lowest-kept : LowestKept
-lowest-kept s (Write r b) t n = outcome-kept s _ _ _ (written-kept s r b t)
+lowest-kept s (Write r b) t n = outcome-kept s _ _ _ (afterWrite-kept s r b t)
 lowest-kept s (Read r) t n = outcome-kept s _ _ _ (after-read-kept s r)
 lowest-kept s (Pins p) t n = outcome-kept s _ _ _ refl
 lowest-kept s Reset t n = absurd t

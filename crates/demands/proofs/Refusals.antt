@@ -17,7 +17,7 @@ use Rattle.am9517.specs.declared.Answer.{Answer}
 use Rattle.service.specs.World.{Stop}
 use Rattle.service.specs.Answers.{given, runNumberOf, stopped, refusedOf, ranOf, runGrounds}
 use Rattle.round.specs.declared.RoundAnswer.the-variants.{Refused}
-use Rattle.round.specs.Round.{Course, Close, beginning, close, begun, roundOf}
+use Rattle.round.specs.Round.{Course, Close, beginning, close, afterNext, roundOf}
 use Rattle.round.specs.Answers.{roundNumberOf, closed, roundGrounds, roundedOf}
 use Rattle.sheet.specs.Sheet.{sheetWriteGrounds, sheetWriteOf}
 use Rattle.demands.specs.Lists.{All, none, also}
@@ -84,7 +84,7 @@ unfolding roundOf first
 round-number zero d w = refl
 round-number (suc left) d w =
     let P : Close → Type 0 = λ x. roundNumberOf (x .answer) ≡ 0 in
-    when-both P _ refl (when-both P _ refl (round-number left d (begun w d)))
+    when-both P _ refl (when-both P _ refl (round-number left d (afterNext w d)))
 
 round-by : (n : ℕ) (t : Bool) (x : Close) (w : Course) → eqb n 0 ≡ t → roundNumberOf (x .answer) ≡ 0 → roundNumberOf (when t (closed x) (closed (close w (Refused n))) .rounded .answer) ≡ n
 unfolding when closed

@@ -21,7 +21,7 @@ use Rattle.service.specs.declared.Reason.{Reason}
 use Rattle.service.specs.declared.Reason.the-variants.{Ended, Dropped, Cascade, Limit, Short}
 use Rattle.service.specs.World.{startOf}
 use Rattle.service.specs.Answers.{Given, stopped}
-use Rattle.round.specs.Round.{Course, Close, beginning, nobody, served, counted, begun, isEnded, roundOf}
+use Rattle.round.specs.Round.{Course, Close, beginning, nobody, runNext, withRun, afterNext, isEnded, roundOf}
 use Rattle.round.specs.Answers.{RoundGiven, closed, roundGrounds, roundedOf}
 use Rattle.demands.specs.Lists.{All, none, also, count}
 use Rattle.demands.specs.Operations.{Op, Write, Read, Pins, Reset, Grant, Run, Round, SheetWriting, SheetReading, next, afterAll}
@@ -51,7 +51,7 @@ traced : (left : ℕ) (d : List ℕ) (w : Course) → All Traced (callsFrom left
 unfolding callsFrom first
 traced zero d w = none
 traced (suc left) d w =
-    when-both (All Traced) _ none (also tt (also tt (when-both (All Traced) _ none (traced left d (begun w d)))))
+    when-both (All Traced) _ none (also tt (also tt (when-both (All Traced) _ none (traced left d (afterNext w d)))))
 
 -- one service more of channel n, and of the others as many as before
 one-more : (l : List ℕ) (n i : ℕ) → n < length l → getD (set l n (getD l n 0 + 1)) i 0 ≡ getD l i 0 + when (eqb n i) 1 0
@@ -88,25 +88,25 @@ module _ (d : List ℕ) (w : Course) (at : Stands w) (some : nobody (w .controll
   abbrev run : Op
   run = Run (w .memory) (drop (w .used) d) (drop (w .written) (w .room)) 65536 0
 
-  ran : next g run ≡ served w d .world .controller
-  unfolding served stopped
+  ran : next g run ≡ runNext w d .world .controller
+  unfolding runNext stopped
   ran =
       ap (λ (x : Given). x .ran .controller)
       (run-accepted g (w .memory) (drop (w .used) d) (drop (w .written) (w .room)) 65536 0 (granted-runs (w .controller) (at .range) (at .idle) some (w .memory) (at .memory)))
 
-  left-by : Left (g .lowest) (served w d)
-  unfolding served
+  left-by : Left (g .lowest) (runNext w d)
+  unfolding runNext
   left-by =
       run-left 65536 0 (drop (w .used) d) (startOf g (w .memory) (drop (w .written) (w .room))) (granted-kept (w .controller) (ranges (w .controller) (at .range)) n below) (granted-open (w .controller) n)
 
-  counted-by : Counted 65536 (length (drop (w .written) (w .room))) (length (drop (w .used) d)) 65536 (served w d .world)
-  unfolding served
+  counted-by : Counted 65536 (length (drop (w .written) (w .room))) (length (drop (w .used) d)) 65536 (runNext w d .world)
+  unfolding runNext
   counted-by =
       run-counted 65536 (length (drop (w .written) (w .room))) (drop (w .used) d) 65536 0 (startOf g (w .memory) (drop (w .written) (w .room)))
       (record { memory-length = at .memory; room-length = refl; used = omega arith; written = omega arith; transfers = omega arith; states = omega arith })
 
-  stands-on : isEnded (served w d .reason) ≡ true → Stands (begun w d)
-  unfolding counted
+  stands-on : isEnded (runNext w d .reason) ≡ true → Stands (afterNext w d)
+  unfolding withRun
   stands-on e =
       record {
         range = of-ranges _ (left-by .ranges);
@@ -116,14 +116,14 @@ module _ (d : List ℕ) (w : Course) (at : Stands w) (some : nobody (w .controll
       }
 
   -- the grant and the run, and then these calls
-  first-two : (x : Close) (ops : List Op) → Leads (begun w d) x ops → Leads w x (Grant ∷ run ∷ ops)
-  unfolding counted count
+  first-two : (x : Close) (ops : List Op) → Leads (afterNext w d) x ops → Leads w x (Grant ∷ run ∷ ops)
+  unfolding withRun count
   first-two x ops l =
       let c = w .controller in
       let o = grant-some c (at .range) (at .idle) some in
-      let there : next (next c Grant) run ≡ begun w d .controller = ap (λ (y : Outcome). next (y .controller) run) o ∙ ran in
+      let there : next (next c Grant) run ≡ afterNext w d .controller = ap (λ (y : Outcome). next (y .controller) run) o ∙ ran in
       let rest : ℕ → Controller → ℕ = λ i y. count i (channels (grants y ops)) in
-      let more : (i : ℕ) → count i (channels (grants c (Grant ∷ run ∷ ops))) ≡ when (eqb n i) 1 0 + count i (channels (grants (begun w d .controller) ops)) =
+      let more : (i : ℕ) → count i (channels (grants c (Grant ∷ run ∷ ops))) ≡ when (eqb n i) 1 0 + count i (channels (grants (afterNext w d .controller) ops)) =
       λ i. ap (λ (a : Answer). count i (channels (told c a ++ grants (next (next c Grant) run) ops))) (ap (λ (y : Outcome). y .answer) o)
       ∙ ap (λ (y : Controller). when (eqb n i) 1 0 + count i (channels (grants y ops))) there in
       record {
@@ -143,8 +143,8 @@ leads zero d w at = record { leaves = refl; reports = λ n. omega arith }
 leads (suc left) d w at =
     when-two (Leads w) (nobody (w .controller)) (λ e. record { leaves = refl; reports = λ n. omega arith })
     (λ some. first-two d w at some _ _
-    (when-two (Leads (begun w d)) (not (isEnded (served w d .reason))) (λ e. record { leaves = refl; reports = λ n. omega arith })
-    (λ e. leads left d (begun w d) (stands-on d w at some (not-false _ e)))))
+    (when-two (Leads (afterNext w d)) (not (isEnded (runNext w d .reason))) (λ e. record { leaves = refl; reports = λ n. omega arith })
+    (λ e. leads left d (afterNext w d) (stands-on d w at some (not-false _ e)))))
 
 zeros : (i : ℕ) → getD {A = ℕ} (0 ∷ 0 ∷ 0 ∷ 0 ∷ []) i 0 ≡ 0
 zeros zero = refl

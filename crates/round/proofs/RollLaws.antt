@@ -15,7 +15,7 @@ use Rattle.round.specs.declared.Totals.{Totals}
 use Rattle.round.specs.declared.RoundAnswer.the-variants.{Done, Quiet, Stopped}
 use Rattle.round.specs.declared.Next.{Next}
 use Rattle.round.specs.declared.Next.the-variants as next
-use Rattle.round.specs.Round.{Course, Close, close, beginning, nobody, served, begun, isEnded, roundOf}
+use Rattle.round.specs.Round.{Course, Close, close, beginning, nobody, runNext, afterNext, isEnded, roundOf}
 use Rattle.round.specs.Needs.{courseOf, startTotals, Turned, turned, turnOf, Ready, Served, Rolling}
 use Rattle.words.proofs.ChoiceLaws.{when-map}
 
@@ -32,7 +32,7 @@ round-turn : (left : ℕ) (d : List ℕ) (w : Course) → roundOf (suc left) d w
 unfolding roundOf turnOf first
 round-turn left d w =
     sym (when-map (onward left d) (nobody (w .controller)) _ _
-    ∙ ap (when (nobody (w .controller)) (close w Quiet)) (when-map (onward left d) (not (isEnded (served w d .reason))) _ _))
+    ∙ ap (when (nobody (w .controller)) (close w Quiet)) (when-map (onward left d) (not (isEnded (runNext w d .reason))) _ _))
 
 pub turn-leads : (k : ℕ) (b : ℕ) → b < k → (d : List ℕ) (w v : Course) (n : Next) → turned v n ≡ turnOf w d → roundOf (k - b) d w ≡ by n (k - (b + 1)) d v
 turn-leads k b h d w v n e =

@@ -21,7 +21,7 @@ use Rattle.service.specs.Answers.{Given, given, stopped, ranOf}
 use Rattle.round.specs.declared.Totals.{Totals}
 use Rattle.round.specs.declared.Next.{Next}
 use Rattle.round.specs.declared.Next.the-variants as next
-use Rattle.round.specs.Round.{Course, nobody, served, counted, begun, isEnded}
+use Rattle.round.specs.Round.{Course, nobody, runNext, withRun, afterNext, isEnded}
 use Rattle.round.specs.Needs.{courseOf, addedTo, handedOn, turned, turnOf, Ready, Roomy, Served}
 use Rattle.words.proofs.ChoiceLaws.{when-hit, when-miss, never}
 use Rattle.words.proofs.PartLaws.{tail-all, put-tail}
@@ -61,7 +61,7 @@ module _ (t : Totals) (m d r : List ℕ) (ready : Ready t m d r) (some : nobody 
   w = courseOf t m r
 
   abbrev s : Stop
-  s = served w d
+  s = runNext w d
 
   abbrev n : ℕ
   n = picked (t .controller)
@@ -77,19 +77,19 @@ module _ (t : Totals) (m d r : List ℕ) (ready : Ready t m d r) (some : nobody 
   ran = record { controller = s .world .controller; answer = Stopped (s .reason); transfers = s .world .transfers; used = s .world .used; written = s .world .written; states = s .world .states }
 
   handed-served : handedOn g t m d r ≡ given ran (s .world .memory) (take (t .written) r ++ s .world .room)
-  unfolding handedOn served stopped
+  unfolding handedOn runNext stopped
   handed-served =
       ap (λ (x : Given). given (x .ran) (x .memory) (take (t .written) r ++ x .room))
       (run-accepted g m (drop (t .used) d) (drop (t .written) r) 65536 0 (granted-runs (t .controller) (ready .range) (ready .idle) some m (ready .memory)))
 
   served-counted : Counted 65536 (length (drop (t .written) r)) (length (drop (t .used) d)) 65536 (s .world)
-  unfolding served
+  unfolding runNext
   served-counted =
       run-counted 65536 (length (drop (t .written) r)) (drop (t .used) d) 65536 0 (startOf g m (drop (t .written) r))
       (record { memory-length = ready .memory; room-length = refl; used = omega arith; written = omega arith; transfers = omega arith; states = omega arith })
 
   served-left : Left (g .lowest) s
-  unfolding served
+  unfolding runNext
   served-left =
       run-left 65536 0 (drop (t .used) d) (startOf g m (drop (t .written) r)) (granted-kept (t .controller) (ranges (t .controller) (ready .range)) n channel-below) (granted-open (t .controller) n)
 
@@ -101,8 +101,8 @@ module _ (t : Totals) (m d r : List ℕ) (ready : Ready t m d r) (some : nobody 
     abbrev x-is : x ≡ ran
     x-is = ap (λ (k : Given). k .ran) is
 
-    pub course-is : courseOf (addedTo t n x) m' r' ≡ begun w d
-    unfolding counted
+    pub course-is : courseOf (addedTo t n x) m' r' ≡ afterNext w d
+    unfolding withRun
     course-is =
         let f : Given → Course = λ k. courseOf (addedTo t n (k .ran)) (k .memory) (k .room) in
         ap f is
@@ -135,10 +135,10 @@ module _ (t : Totals) (m d r : List ℕ) (ready : Ready t m d r) (some : nobody 
 
     -- the totals with this run
     module _ (u : Totals) (added : u ≡ addedTo t n x) where
-      course-there : courseOf u m' r' ≡ begun w d
+      course-there : courseOf u m' r' ≡ afterNext w d
       course-there = ap (λ (y : Totals). courseOf y m' r') added ∙ course-is
 
-      turn-some : turnOf w d ≡ when (not (isEnded (s .reason))) (turned (begun w d) (next.Stopped (s .reason))) (turned (begun w d) next.On)
+      turn-some : turnOf w d ≡ when (not (isEnded (s .reason))) (turned (afterNext w d) (next.Stopped (s .reason))) (turned (afterNext w d) next.On)
       unfolding turnOf first when
       turn-some = simp some
 
@@ -150,7 +150,7 @@ module _ (t : Totals) (m d r : List ℕ) (ready : Ready t m d r) (some : nobody 
       pub turn-stopped : (why : Reason) → x .answer ≡ Stopped why → isEnded why ≡ false → turned (courseOf u m' r') (next.Stopped why) ≡ turnOf w d
       turn-stopped why a h =
           let same : isEnded (s .reason) ≡ false = ap isEnded (sym (reason-is why a)) ∙ h in
-          ap (λ (y : Course). turned y (next.Stopped why)) course-there ∙ ap (λ (e : Reason). turned (begun w d) (next.Stopped e)) (reason-is why a)
+          ap (λ (y : Course). turned y (next.Stopped why)) course-there ∙ ap (λ (e : Reason). turned (afterNext w d) (next.Stopped e)) (reason-is why a)
           ∙ sym (when-hit _ _ _ (ap not same)) ∙ sym turn-some
 
       pub served-of : (k : Next) → (k ≡ next.On → isEnded (s .reason) ≡ true) → Served t u k d r

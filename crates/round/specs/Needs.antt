@@ -12,7 +12,7 @@ use Rattle.service.specs.Answers.{Given, given, ranOf}
 use Rattle.round.specs.declared.Next.{Next}
 use Rattle.round.specs.declared.Next.the-variants.{On, Quiet, Stopped}
 use Rattle.round.specs.declared.Totals.{Totals}
-use Rattle.round.specs.Round.{Course, Close, nobody, served, begun, isEnded, roundOf}
+use Rattle.round.specs.Round.{Course, Close, nobody, runNext, afterNext, isEnded, roundOf}
 
 -- the course of totals over a memory and a room
 abbrev pub courseOf : Totals → List ℕ → List ℕ → Course
@@ -46,8 +46,8 @@ turned w n = record { course = w; next = n }
 unfoldable pub turnOf : Course → List ℕ → Turned
 turnOf w d =
     first (turned w Quiet if nobody (w .controller) ∷ [])
-    (first (turned (begun w d) (Stopped (served w d .reason)) if not (isEnded (served w d .reason)) ∷ [])
-    (turned (begun w d) On))
+    (first (turned (afterNext w d) (Stopped (runNext w d .reason)) if not (isEnded (runNext w d .reason)) ∷ [])
+    (turned (afterNext w d) On))
 
 -- Where a round stands: idle and in range, its counts bounded by the services begun, and what is left of it comes to o.
 pub record Rolling (k : ℕ) (d : List ℕ) (size : ℕ) (o : Close) (t : Totals) (m r : List ℕ) : Type 0 where

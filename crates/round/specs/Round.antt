@@ -35,14 +35,14 @@ abbrev pub nobody : Controller → Bool
 nobody c = eqb (picked c) 4
 
 -- "The device bytes not yet used are handed on to the next run, and so is the room behind the last byte written."
-unfoldable pub served : Course → List ℕ → Stop
-served w d =
+unfoldable pub runNext : Course → List ℕ → Stop
+runNext w d =
     let c = w .controller in
     runOf 65536 0 (drop (w .used) d) (startOf (granted c (picked c)) (w .memory) (drop (w .written) (w .room)))
 
 -- the course after that service
-unfoldable pub counted : Course → ℕ → Stop → Course
-counted w n s =
+unfoldable pub withRun : Course → ℕ → Stop → Course
+withRun w n s =
     let v = s .world in
     record {
       controller = v .controller;
@@ -55,8 +55,8 @@ counted w n s =
       states = w .states + v .states;
     }
 
-abbrev pub begun : Course → List ℕ → Course
-begun w d = counted w (picked (w .controller)) (served w d)
+abbrev pub afterNext : Course → List ℕ → Course
+afterNext w d = withRun w (picked (w .controller)) (runNext w d)
 
 abbrev pub isEnded : Reason → Bool
 isEnded Ended = true
@@ -79,5 +79,5 @@ unfoldable pub roundOf : ℕ → List ℕ → Course → Close
 roundOf zero d w = close w Done
 roundOf (suc left) d w =
     first (close w Quiet if nobody (w .controller) ∷ [])
-    (first (close (begun w d) (Stopped (served w d .reason)) if not (isEnded (served w d .reason)) ∷ [])
-    (roundOf left d (begun w d)))
+    (first (close (afterNext w d) (Stopped (runNext w d .reason)) if not (isEnded (runNext w d .reason)) ∷ [])
+    (roundOf left d (afterNext w d)))

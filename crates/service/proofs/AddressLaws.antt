@@ -8,7 +8,7 @@ use lib.Dec.{eqb}
 use borrow.Author.Tests.{eq-eqb, ne-eqb, eqb-true, eqb-false}
 use Rattle.words.specs.Choice.{when}
 use Rattle.words.specs.Steps.{step, steps, stride}
-use Rattle.service.specs.Closed.{reachOf, turnedTo, entered}
+use Rattle.service.specs.Closed.{reachOf, wrappedTo, entered}
 use Rattle.service.specs.Needs.{Straight}
 use Rattle.words.proofs.ChoiceLaws.{never, when-hit, when-miss}
 use Rattle.words.proofs.StepLaws.{steps-on, steps-next, steps-none, steps-below}
@@ -36,16 +36,16 @@ module _ (down : Bool) (a n : ℕ) (s : Straight down a n) (j : ℕ) (h : j < n)
   straight-back e = rw e (sym (straight-down a j (omega (arith, s .back e)) (s .inside)))
 
 -- behind its reach an address goes on from the other end
-turned : (down : Bool) (a : ℕ) → a < 65536 → steps 16 down a (reachOf down a) ≡ turnedTo down
-unfolding steps stride reachOf turnedTo when
+turned : (down : Bool) (a : ℕ) → a < 65536 → steps 16 down a (reachOf down a) ≡ wrappedTo down
+unfolding steps stride reachOf wrappedTo when
 turned true a h = omega arith
 turned false a h = omega arith
 
-pub turned-on : (down : Bool) (a i : ℕ) → a < 65536 → steps 16 down (turnedTo down) i ≡ steps 16 down a (reachOf down a + i)
+pub turned-on : (down : Bool) (a i : ℕ) → a < 65536 → steps 16 down (wrappedTo down) i ≡ steps 16 down a (reachOf down a + i)
 turned-on down a i h = ap (λ (x : ℕ). steps 16 down x i) (sym (turned down a h)) ∙ steps-on 16 down a (reachOf down a) i
 
-pub turned-straight : (down : Bool) (n : ℕ) → n ≤ 65536 → Straight down (turnedTo down) n
-unfolding turnedTo when
+pub turned-straight : (down : Bool) (n : ℕ) → n ≤ 65536 → Straight down (wrappedTo down) n
+unfolding wrappedTo when
 turned-straight true n h = record { inside = omega arith; up = λ e. never e; back = λ e. omega arith }
 turned-straight false n h = record { inside = omega arith; up = λ e. omega arith; back = λ e. never (sym e) }
 

@@ -20,10 +20,10 @@ use Rattle.am9517.specs.Modes.{addressHold, decrement}
 use Rattle.am9517.specs.declared.Channel.{Channel}
 use Rattle.am9517.specs.declared.Controller.{Controller}
 use Rattle.service.specs.declared.Reason.the-variants.{Ended, Limit}
-use Rattle.service.specs.World.{World, startOf, withController, stop, copies}
+use Rattle.service.specs.World.{World, startOf, withController, stop, memoryToMemory}
 use Rattle.service.specs.Stops.{stops}
-use Rattle.service.specs.Ends.{runner, reachesTc, finished, over, single}
-use Rattle.service.specs.Transfer.{at, stepped}
+use Rattle.service.specs.Ends.{runner, reachesTc, finished, afterTcOrEop, single}
+use Rattle.service.specs.Transfer.{withCurrent, stepped}
 use Rattle.service.specs.Copy.{copied}
 use Rattle.service.specs.Run.{transferred, runOf}
 use Rattle.service.specs.Closed.{along, onward, carried, sourceAlong, copiedOn, copiedBytes, copiedAll, reachedCopying, untilEnd}
@@ -48,7 +48,7 @@ copiedWith w from to =
     let c = w .controller in
     let byte = getD (w .memory) (from .address) 0 in
     record {
-      controller = withChannel (withChannel (put c Temporary byte) 0 (at from (when (addressHold c) (from .address) (step 16 (decrement (from .mode)) (from .address))) (from .count))) 1 (stepped to);
+      controller = withChannel (withChannel (put c Temporary byte) 0 (withCurrent from (when (addressHold c) (from .address) (step 16 (decrement (from .mode)) (from .address))) (from .count))) 1 (stepped to);
       memory = set (w .memory) (to .address) byte;
       room = w .room;
       transfers = w .transfers + 1;
@@ -70,7 +70,7 @@ module _ (c : Controller) (m r : List ℕ) where
 
   -- channel 0 after n transfers
   abbrev sent : ℕ → Channel
-  sent n = at from (sourceAlong c n) (from .count)
+  sent n = withCurrent from (sourceAlong c n) (from .count)
 
   -- both channels after n transfers
   abbrev both : ℕ → List Channel
@@ -108,10 +108,10 @@ module _ (c : Controller) (m r : List ℕ) where
       let byte = moving (n - 1) in
       let back : j + 1 + 1 - 1 ≡ j + 1 = omega arith in
       let states : (j + 1) * 8 + 8 ≡ (j + 1 + 1) * 8 = omega arith in
-      let x : Channel = at from (when (addressHold c) (sourceAlong c n) (step 16 (decrement (from .mode)) (sourceAlong c n))) (from .count) in
+      let x : Channel = withCurrent from (when (addressHold c) (sourceAlong c n) (step 16 (decrement (from .mode)) (sourceAlong c n))) (from .count) in
       let chs : set (set (set (set (c .channels) 0 (sent n)) 1 (onward to n)) 0 x) 1 (stepped (onward to n)) ≡ both (n + 1) =
       two-again (c .channels) (sent n) (onward to n) x (stepped (onward to n))
-      ∙ ap (λ (a : ℕ). set (set (c .channels) 0 (at from a (from .count))) 1 (stepped (onward to n))) (source-next n below)
+      ∙ ap (λ (a : ℕ). set (set (c .channels) 0 (withCurrent from a (from .count))) 1 (stepped (onward to n))) (source-next n below)
       ∙ ap (λ (y : Channel). set (set (c .channels) 0 (sent (n + 1))) 1 y) (stepped-onward to n) in
       let bytes : set (copiedBytes c m n) (along to n) (moving n) ≡ copiedBytes c m (n + 1) = carried-more (along to) (sourceAlong c) m n (along to n) (sourceAlong c n) refl refl (copiedBytes c m n) refl in
       copied-by (copiedAll c m r n) (sent n) (onward to n) (sent-there n byte nz) (got-there n byte nz)
@@ -124,8 +124,8 @@ module _ (c : Controller) (m r : List ℕ) where
   unfolding copiedAll carried
   first-copy below goal =
       let start : when (addressHold c) (from .address) (step 16 (decrement (from .mode)) (from .address)) ≡ sourceAlong c 1 = rw (← source-none below) (source-next 0 below) in
-      let chs : set (set (c .channels) 0 (at from (when (addressHold c) (from .address) (step 16 (decrement (from .mode)) (from .address))) (from .count))) 1 (stepped to) ≡ both 1 =
-      ap (λ (a : ℕ). set (set (c .channels) 0 (at from a (from .count))) 1 (stepped to)) start ∙ ap (λ (y : Channel). set (set (c .channels) 0 (sent 1)) 1 y) (stepped-first to) in
+      let chs : set (set (c .channels) 0 (withCurrent from (when (addressHold c) (from .address) (step 16 (decrement (from .mode)) (from .address))) (from .count))) 1 (stepped to) ≡ both 1 =
+      ap (λ (a : ℕ). set (set (c .channels) 0 (withCurrent from a (from .count))) 1 (stepped to)) start ∙ ap (λ (y : Channel). set (set (c .channels) 0 (sent 1)) 1 y) (stepped-first to) in
       let byte : getD m (from .address) 0 ≡ moving 0 = ap (λ (a : ℕ). getD m a 0) (sym (source-none below)) in
       let place : to .address ≡ along to 0 = sym (along-none to goal) in
       copied-by (startOf c m r) from to refl refl
@@ -144,15 +144,15 @@ module _ (c : Controller) (m r : List ℕ) where
   abbrev here : ℕ → World
   here n = reachedCopying c m r n
 
-  copies-after : (n : ℕ) → copies (reachedCopying c m r n .controller) ≡ copies c
-  unfolding reachedCopying copiedAll copies
-  copies-after n = when-both (λ (w : World). copies (w .controller) ≡ copies c) (eqb n 0) refl refl
+  memoryToMemory-after : (n : ℕ) → memoryToMemory (reachedCopying c m r n .controller) ≡ memoryToMemory c
+  unfolding reachedCopying copiedAll memoryToMemory
+  memoryToMemory-after n = when-both (λ (w : World). memoryToMemory (w .controller) ≡ memoryToMemory c) (eqb n 0) refl refl
 
   transfers-after : (n : ℕ) → reachedCopying c m r n .transfers ≡ n
   unfolding reachedCopying copiedAll
   transfers-after n = when-each (λ (w : World). w .transfers ≡ n) (eqb n 0) (λ e. sym (eqb-true _ _ e)) (λ e. refl)
 
-  module _ (ic : copies c ≡ true) (below : from .address < 65536) (goal : to .address < 65536) (small : to .count < 65536) where
+  module _ (ic : memoryToMemory c ≡ true) (below : from .address < 65536) (goal : to .address < 65536) (small : to .count < 65536) where
     there : (n : ℕ) → (to .count ≡ 0 → ⊥) → n ≤ to .count → channel (copiedAll c m r n .controller) 1 .count ≡ to .count - n
     unfolding copiedAll
     there n nz h = ap (λ (x : Channel). x .count) (got-there n (moving (n - 1)) nz) ∙ onward-count to n ∙ count-left (to .count) n h small
@@ -162,7 +162,7 @@ module _ (c : Controller) (m r : List ℕ) where
     count-after (suc j) h = rw (copying-some (suc j) (omega arith)) (there (suc j) (λ e. omega arith) h)
 
     reached-more : (n : ℕ) → n ≤ to .count → (d : List ℕ) → transferred (reachedCopying c m r n) d ≡ reachedCopying c m r (n + 1)
-    reached-more n h d = transferred-copied 0 d (reachedCopying c m r n) (copies-after n ∙ ic) ∙ go n h
+    reached-more n h d = transferred-copied 0 d (reachedCopying c m r n) (memoryToMemory-after n ∙ ic) ∙ go n h
       where
         go : (n : ℕ) → n ≤ to .count → copied (reachedCopying c m r n) ≡ reachedCopying c m r (n + 1)
         go zero h = rw (reached-none, copying-some 1 (omega arith)) (first-copy below goal)
@@ -172,15 +172,15 @@ module _ (c : Controller) (m r : List ℕ) where
 
     tc-after : (n : ℕ) → n ≤ to .count → reachesTc (here n .controller) ≡ eqb (to .count - n) 0
     unfolding runner when
-    tc-after n h = simp (copies-after n ∙ ic) (ap (λ (k : ℕ). eqb k 0) (count-after n h))
+    tc-after n h = simp (memoryToMemory-after n ∙ ic) (ap (λ (k : ℕ). eqb k 0) (count-after n h))
 
     single-after : (n : ℕ) → single (here n .controller) ≡ false
     unfolding single
-    single-after n = simp (copies-after n ∙ ic)
+    single-after n = simp (memoryToMemory-after n ∙ ic)
 
-    over-after : (n : ℕ) (tc : Bool) → over (here n .controller) tc ≡ finished (put (here n .controller) Request (withBit (here n .controller .request) 0 false)) 1 tc
-    unfolding over when
-    over-after n tc = simp (copies-after n ∙ ic)
+    afterTcOrEop-after : (n : ℕ) (tc : Bool) → afterTcOrEop (here n .controller) tc ≡ finished (put (here n .controller) Request (withBit (here n .controller .request) 0 false)) 1 tc
+    unfolding afterTcOrEop when
+    afterTcOrEop-after n tc = simp (memoryToMemory-after n ∙ ic)
 
     module _ (limit eop : ℕ) (d : List ℕ) where
       way : Way d here false (to .count)
@@ -188,11 +188,11 @@ module _ (c : Controller) (m r : List ℕ) where
 
       free-after : (n : ℕ) → n < limit → Free (stops (here n) d (limit - n))
       unfolding stops first when
-      free-after n h x = let more : limit - n ≡ 0 → ⊥ = λ e. omega arith in simp (copies-after n ∙ ic, ne-eqb _ _ more)
+      free-after n h x = let more : limit - n ≡ 0 → ⊥ = λ e. omega arith in simp (memoryToMemory-after n ∙ ic, ne-eqb _ _ more)
 
       stops-after : Gives (stops (here limit) d (limit - limit)) (stop (here limit) Limit)
       unfolding stops first when
-      stops-after x = let none : limit - limit ≡ 0 = omega arith in simp (copies-after limit ∙ ic, eq-eqb _ _ none)
+      stops-after x = let none : limit - limit ≡ 0 = omega arith in simp (memoryToMemory-after limit ∙ ic, eq-eqb _ _ none)
 
       pub copy-ends : (n : ℕ) → n ≡ untilEnd false (to .count) eop → n ≤ limit
           → runOf limit eop d (startOf c m r)
@@ -203,7 +203,7 @@ module _ (c : Controller) (m r : List ℕ) where
           not-false _ (λ z. never (sym (u .last (eqb-false _ _ (neither-left (eqb n (to .count + 1)) (eqb n eop) z)) (eqb-false _ _ (neither-right (eqb n (to .count + 1)) (eqb n eop) z))))) in
           ap (λ (w : World). runOf limit eop d w) (sym reached-none)
           ∙ way-end limit eop d here false (to .count) way n u h (λ k l. free-after k (omega arith))
-          ∙ ap (λ (x : Controller). stop (withController (here n) x) Ended) (when-hit _ _ (ended (here n .controller)) met ∙ over-after n (eqb n (to .count + 1)))
+          ∙ ap (λ (x : Controller). stop (withController (here n) x) Ended) (when-hit _ _ (ended (here n .controller)) met ∙ afterTcOrEop-after n (eqb n (to .count + 1)))
 
       pub copy-halts : limit < untilEnd false (to .count) eop → runOf limit eop d (startOf c m r) ≡ stop (here limit) Limit
       copy-halts h =

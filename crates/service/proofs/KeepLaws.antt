@@ -16,12 +16,12 @@ use Rattle.am9517.specs.Modes.{compressed, autoinitialize, serviceOf}
 use Rattle.am9517.specs.declared.Controller.{Controller}
 use Rattle.service.specs.declared.Reason.{Reason}
 use Rattle.service.specs.declared.Reason.the-variants.{Ended, Dropped, Cascade, Limit, Short}
-use Rattle.service.specs.World.{World, withController, copies, server, Stop, stop}
+use Rattle.service.specs.World.{World, withController, memoryToMemory, servingChannel, Stop, stop}
 use Rattle.service.specs.Stops.{dropped, short, stops}
-use Rattle.service.specs.States.{plain, latches, cost}
+use Rattle.service.specs.States.{statesWithoutS1, needsS1, cost}
 use Rattle.service.specs.Transfer.{writes, reads, moved}
 use Rattle.service.specs.Copy.{source, copied}
-use Rattle.service.specs.Ends.{restored, finished, over, single, reachesTc, ends}
+use Rattle.service.specs.Ends.{restored, finished, afterTcOrEop, single, reachesTc, ends}
 use Rattle.service.specs.Run.{transferred, runOf}
 use Rattle.words.proofs.BitLaws.{four-kept}
 use Rattle.words.proofs.ChoiceLaws.{when-both, when-each, when-le, never}
@@ -31,7 +31,7 @@ use Rattle.am9517.proofs.KeepLaws.{kept-same, kept-open, kept-ended, modes-kept
 
 -- the device is not short, where that matters
 abbrev pub Supplied : World → List ℕ → Type 0
-Supplied w d = copies (w .controller) ≡ false → short w d ≡ false
+Supplied w d = memoryToMemory (w .controller) ≡ false → short w d ≡ false
 
 limit-not : Limit ≡ Ended → ⊥
 limit-not e = let z : _≡_ {A = ℕ} 0 1 = cc in omega arith
@@ -50,15 +50,15 @@ module _ (P : ℕ → World → Type 0) (Q : Stop → Type 0) (eop : ℕ) (d : L
     (step : (left : ℕ) (w : World) → P (suc left) w → Supplied w d → P left (transferred w d))
     (halts : (left : ℕ) (w : World) (e : Reason) → (e ≡ Ended → ⊥) → P left w → Q (stop w e))
     (drops : (left : ℕ) (w : World) → P left w → Q (stop (withController w (ended (w .controller))) Dropped))
-    (meets : (left : ℕ) (w : World) (tc : Bool) → P left w → Q (stop (withController w (over (w .controller) tc)) Ended))
+    (meets : (left : ℕ) (w : World) (tc : Bool) → P left w → Q (stop (withController w (afterTcOrEop (w .controller) tc)) Ended))
     (parts : (left : ℕ) (w : World) → P left w → Q (stop (withController w (ended (w .controller))) Ended)) where
   through-stops : (left : ℕ) (w : World) (x : Stop) → P left w → (Supplied w d → Q x) → Q (first (stops w d left) x)
   unfolding stops first
   through-stops left w x p g =
-      when-each (λ (gs : List (Ground Stop)). Q (first gs x)) (copies (w .controller))
+      when-each (λ (gs : List (Ground Stop)). Q (first gs x)) (memoryToMemory (w .controller))
       (λ ic. when-both Q (eqb left 0) (halts left w Limit limit-not p) (g (λ nc. never (sym ic ∙ nc))))
       (λ nc. when-both Q (dropped (w .controller)) (drops left w p)
-      (when-both Q (eqb (serviceOf (server (w .controller) .mode)) 3) (halts left w Cascade cascade-not p)
+      (when-both Q (eqb (serviceOf (servingChannel (w .controller) .mode)) 3) (halts left w Cascade cascade-not p)
       (when-both Q (eqb left 0) (halts left w Limit limit-not p) (when-each Q (short w d) (λ s. halts left w Short short-not p) (λ s. g (λ z. s))))))
 
   through-ends : (left : ℕ) (c : Controller) (w : World) (x : Stop) → P left w → Q x → Q (first (ends c w eop) x)
@@ -82,10 +82,10 @@ pub record Counted (memory room bytes most : ℕ) (w : World) : Type 0 where
   pub states : w .states ≤ 8 * w .transfers
 
 cost-most : (c : Controller) (a : ℕ) → cost c a ≤ 8
-unfolding cost plain
+unfolding cost statesWithoutS1
 cost-most c a =
     let p : when (compressed c) 2 3 ≤ 3 = when-both (λ (x : ℕ). x ≤ 3) (compressed c) (omega arith) (omega arith) in
-    omega (arith, when-le (latches c a) 1)
+    omega (arith, when-le (needsS1 c a) 1)
 
 -- one more by a test stays within a bound where the test leaves room
 one-within : (t : Bool) (x n : ℕ) → x ≤ n → (t ≡ true → x < n) → x + when t 1 0 ≤ n
@@ -109,7 +109,7 @@ module _ (M R : ℕ) (d : List ℕ) where
   unfolding moved short
   moved-counted most left w p s =
       let c = p .0 in
-      let ch = server (w .controller) in
+      let ch = servingChannel (w .controller) in
       let bytes = supplied-bytes (writes ch) (w .used) (length d) _ s in
       let space = supplied-bytes (reads ch) (w .written) (length (w .room)) false (or-false _ (neither-right (writes ch && leb (length d) (w .used)) _ s)) in
       record {
@@ -137,7 +137,7 @@ module _ (M R : ℕ) (d : List ℕ) where
   step-counted : (most left : ℕ) (w : World) → Within most (suc left) w → Supplied w d → Within most left (transferred w d)
   unfolding transferred
   step-counted most left w p s =
-      (when-each (λ (x : World). Counted M R (length d) (most - left) x) (copies (w .controller)) (λ ic. copied-counted most left w p) (λ nc. moved-counted most left w p (s nc)), omega (arith, p .1))
+      (when-each (λ (x : World). Counted M R (length d) (most - left) x) (memoryToMemory (w .controller)) (λ ic. copied-counted most left w p) (λ nc. moved-counted most left w p (s nc)), omega (arith, p .1))
 
   counted-on : (most left : ℕ) (w : World) (c : Controller) → Counted M R (length d) (most - left) w → Counted M R (length d) most (withController w c)
   counted-on most left w c p =
@@ -185,7 +185,7 @@ copied-sound l w p =
 
 transferred-sound : (l : ℕ) (w : World) (d : List ℕ) → Sound l (w .controller) → Sound l (transferred w d .controller)
 unfolding transferred
-transferred-sound l w d p = when-both (λ (x : World). Sound l (x .controller)) (copies (w .controller)) (copied-sound l w p) (moved-sound l w d p)
+transferred-sound l w d p = when-both (λ (x : World). Sound l (x .controller)) (memoryToMemory (w .controller)) (copied-sound l w p) (moved-sound l w d p)
 
 finished-ranges : (c : Controller) (n : ℕ) (tc : Bool) → n < 4 → Ranges c → Ranges (finished c n tc)
 unfolding finished
@@ -205,15 +205,15 @@ finished-idle : (c : Controller) (n : ℕ) (tc : Bool) → finished c n tc .«in
 unfolding finished
 finished-idle c n tc = refl
 
-over-left : (l : ℕ) (w : World) (tc : Bool) → Sound l (w .controller) → Left l (stop (withController w (over (w .controller) tc)) Ended)
-unfolding over
-over-left l w tc p =
+afterTcOrEop-left : (l : ℕ) (w : World) (tc : Bool) → Sound l (w .controller) → Left l (stop (withController w (afterTcOrEop (w .controller) tc)) Ended)
+unfolding afterTcOrEop
+afterTcOrEop-left l w tc p =
     let c = w .controller in
     let r = p .ranges in
     let q = put c Request (withBit (c .request) 0 false) in
     let f = r .fields in
     let rq : Ranges q = kept-open c r q (record { mode = λ k. refl; pins = refl; flipFlop = refl; lowest = refl; tc = f .tc; request = four-kept (c .request) 0 false (f .request) (omega arith); mask = f .mask }) (p .busy) (f .latchFull) (r .latch) (f .serving) in
-    when-both (λ (x : Controller). Left l (stop (withController w x) Ended)) (copies c)
+    when-both (λ (x : Controller). Left l (stop (withController w x) Ended)) (memoryToMemory c)
     (record { ranges = finished-ranges q 1 tc (omega arith) rq; idle = λ e. finished-idle q 1 tc; lowest = finished-lowest q 1 tc ∙ p .lowest })
     (record { ranges = finished-ranges c (c .serving) tc (omega (arith, f .serving)) r; idle = λ e. finished-idle c (c .serving) tc; lowest = finished-lowest c (c .serving) tc ∙ p .lowest })
 
@@ -225,7 +225,7 @@ pub run-left : (left eop : ℕ) (d : List ℕ) (w : World) → Ranges (w .contro
 run-left left eop d w r b =
     let l = w .controller .lowest in
     run-ind (λ (n : ℕ) (x : World). Sound l (x .controller)) (Left l) eop d step
-    (λ n x e not p. record { ranges = p .ranges; idle = λ z. absurd (not z); lowest = p .lowest }) (λ n x p. ended-left l x Dropped p) (λ n x tc p. over-left l x tc p) (λ n x p. ended-left l x Ended p)
+    (λ n x e not p. record { ranges = p .ranges; idle = λ z. absurd (not z); lowest = p .lowest }) (λ n x p. ended-left l x Dropped p) (λ n x tc p. afterTcOrEop-left l x tc p) (λ n x p. ended-left l x Ended p)
     left w (record { ranges = r; busy = b; lowest = refl })
   where
     step : (n : ℕ) (x : World) → Sound (w .controller .lowest) (x .controller) → Supplied x d → Sound (w .controller .lowest) (transferred x d .controller)

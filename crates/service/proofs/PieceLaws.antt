@@ -5,7 +5,7 @@ use mathlib.Core.Path.{_≡_, sym, ap, _∙_}
 use mathlib.Core.Bool.{Bool}
 use native.Mathlib.Omega.{arith}
 use Rattle.words.specs.Steps.{steps}
-use Rattle.service.specs.Closed.{least, reachOf, turnedTo}
+use Rattle.service.specs.Closed.{least, reachOf, wrappedTo}
 use Rattle.service.specs.Needs.{Straight}
 use Rattle.service.proofs.BoundLaws.{least-left, least-right, least-below}
 use Rattle.service.proofs.AddressLaws.{reach-straight, turned-straight, turned-on}
@@ -13,9 +13,9 @@ use Rattle.service.proofs.AddressLaws.{reach-straight, turned-straight,
 pub record Pieces (down : Bool) (a n first : ℕ) : Type 0 where
   pub most : first ≤ n
   pub front : Straight down a first
-  pub back : Straight down (turnedTo down) (n - first)
+  pub back : Straight down (wrappedTo down) (n - first)
   -- where a second piece is needed, its addresses are the ones after the first piece's
-  pub next : first < n → (i : ℕ) → steps 16 down (turnedTo down) i ≡ steps 16 down a (first + i)
+  pub next : first < n → (i : ℕ) → steps 16 down (wrappedTo down) i ≡ steps 16 down a (first + i)
 
 pub pieces : (down : Bool) (a n reach first : ℕ) → a < 65536 → n ≤ 65536 → reach ≡ reachOf down a → first ≡ least n reach → Pieces down a n first
 pieces down a n reach first h l r e =

@@ -11,7 +11,7 @@ use Rattle.words.specs.Grounds.{Ground, first}
 use Rattle.am9517.specs.State.{ended}
 use Rattle.am9517.specs.Modes.{serviceOf}
 use Rattle.service.specs.declared.Reason.the-variants.{Dropped, Cascade, Limit, Short}
-use Rattle.service.specs.World.{World, Stop, stop, withController, server, copies}
+use Rattle.service.specs.World.{World, Stop, stop, withController, servingChannel, memoryToMemory}
 use Rattle.service.specs.Stops.{dropped, short, stops}
 use Rattle.service.specs.Transfer.{moved}
 use Rattle.service.specs.Copy.{copied}
@@ -43,26 +43,26 @@ module _ (eop : ℕ) (d : List ℕ) (w : World) where
       let k : left ≡ suc left - 1 = omega arith in
       h _ ∙ e _ ∙ ap (λ (x : ℕ). runOf x eop d (transferred w d)) k
 
-  pub transferred-moved : copies (w .controller) ≡ false → transferred w d ≡ moved w d
+  pub transferred-moved : memoryToMemory (w .controller) ≡ false → transferred w d ≡ moved w d
   unfolding transferred when
   transferred-moved h = simp h
 
-  pub transferred-copied : copies (w .controller) ≡ true → transferred w d ≡ copied w
+  pub transferred-copied : memoryToMemory (w .controller) ≡ true → transferred w d ≡ copied w
   unfolding transferred when
   transferred-copied h = simp h
 
 -- Which ground of the stops holds.
-module _ (w : World) (d : List ℕ) (left : ℕ) (nc : copies (w .controller) ≡ false) where
+module _ (w : World) (d : List ℕ) (left : ℕ) (nc : memoryToMemory (w .controller) ≡ false) where
   pub stops-dropped : dropped (w .controller) ≡ true → Gives (stops w d left) (stop (withController w (ended (w .controller))) Dropped)
   unfolding stops first when
   stops-dropped h x = simp (nc, h)
 
   module _ (nd : dropped (w .controller) ≡ false) where
-    pub stops-cascade : eqb (serviceOf (server (w .controller) .mode)) 3 ≡ true → Gives (stops w d left) (stop w Cascade)
+    pub stops-cascade : eqb (serviceOf (servingChannel (w .controller) .mode)) 3 ≡ true → Gives (stops w d left) (stop w Cascade)
     unfolding stops first when
     stops-cascade h x = simp (nc, nd, h)
 
-    module _ (ns : eqb (serviceOf (server (w .controller) .mode)) 3 ≡ false) where
+    module _ (ns : eqb (serviceOf (servingChannel (w .controller) .mode)) 3 ≡ false) where
       pub stops-limit : eqb left 0 ≡ true → Gives (stops w d left) (stop w Limit)
       unfolding stops first when
       stops-limit h x = simp (nc, nd, ns, h)

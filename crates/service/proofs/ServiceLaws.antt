@@ -16,10 +16,10 @@ use Rattle.am9517.specs.declared.Channel.{Channel}
 use Rattle.am9517.specs.declared.Controller.{Controller}
 use Rattle.service.specs.declared.Reason.{Reason}
 use Rattle.service.specs.declared.Reason.the-variants.{Ended, Dropped, Cascade, Limit, Short}
-use Rattle.service.specs.World.{World, startOf, withController, copies, server, stop}
+use Rattle.service.specs.World.{World, startOf, withController, memoryToMemory, servingChannel, stop}
 use Rattle.service.specs.Stops.{dropped, short, stops}
 use Rattle.service.specs.Transfer.{writes, reads}
-use Rattle.service.specs.Ends.{runner, reachesTc, finished, over, single, ends}
+use Rattle.service.specs.Ends.{runner, reachesTc, finished, afterTcOrEop, single, ends}
 use Rattle.service.specs.Run.{runOf}
 use Rattle.service.specs.Closed.{least, untilEnd, stockOf, reached, travelled, closing}
 use Rattle.words.proofs.ChoiceLaws.{when-both, when-each}
@@ -29,11 +29,11 @@ use Rattle.service.proofs.WayLaws.{Way, way-on, way-end}
 use Rattle.service.proofs.TravelLaws.{Standing, standing, reached-none, reached-more}
 
 -- Before the first transfer.
-module _ (c : Controller) (m d r : List ℕ) (limit eop : ℕ) (nc : copies c ≡ false) where
+module _ (c : Controller) (m d r : List ℕ) (limit eop : ℕ) (nc : memoryToMemory c ≡ false) where
   pub run-dropped : dropped c ≡ true → runOf limit eop d (startOf c m r) ≡ stop (startOf (ended c) m r) Dropped
   run-dropped h = run-stop eop d (startOf c m r) limit _ (stops-dropped (startOf c m r) d limit nc h)
 
-  pub run-cascade : dropped c ≡ false → serviceOf (server c .mode) ≡ 3 → runOf limit eop d (startOf c m r) ≡ stop (startOf c m r) Cascade
+  pub run-cascade : dropped c ≡ false → serviceOf (servingChannel c .mode) ≡ 3 → runOf limit eop d (startOf c m r) ≡ stop (startOf c m r) Cascade
   run-cascade h s = run-stop eop d (startOf c m r) limit _ (stops-cascade (startOf c m r) d limit nc h (eq-eqb _ _ s))
 
 -- A device that is short after n transfers of a kind.
@@ -55,26 +55,26 @@ short-read : (n bytes space : ℕ) → space ≤ n → shortBy false true n byte
 unfolding when
 short-read n bytes space h = simp (le-leb _ _ h)
 
-runner-is : (c : Controller) → copies c ≡ false → runner c ≡ c .serving
+runner-is : (c : Controller) → memoryToMemory c ≡ false → runner c ≡ c .serving
 unfolding runner when
 runner-is c h = simp h
 
-tc-is : (c : Controller) → copies c ≡ false → reachesTc c ≡ eqb (server c .count) 0
+tc-is : (c : Controller) → memoryToMemory c ≡ false → reachesTc c ≡ eqb (servingChannel c .count) 0
 tc-is c h = ap (λ (n : ℕ). eqb (channel c n .count) 0) (runner-is c h)
 
-over-is : (c : Controller) (tc : Bool) → copies c ≡ false → over c tc ≡ finished c (c .serving) tc
-unfolding over when
-over-is c tc h = simp h
+afterTcOrEop-is : (c : Controller) (tc : Bool) → memoryToMemory c ≡ false → afterTcOrEop c tc ≡ finished c (c .serving) tc
+unfolding afterTcOrEop when
+afterTcOrEop-is c tc h = simp h
 
-single-is : (c : Controller) → copies c ≡ false → single c ≡ eqb (serviceOf (server c .mode)) 1
+single-is : (c : Controller) → memoryToMemory c ≡ false → single c ≡ eqb (serviceOf (servingChannel c .mode)) 1
 unfolding single
 single-is c h = simp h
 
 -- The trip.
-module _ (c : Controller) (m d r : List ℕ) (limit eop : ℕ) (nc : copies c ≡ false) (nd : dropped c ≡ false) (ns : eqb (serviceOf (server c .mode)) 3 ≡ false)
-    (below : server c .address < 65536) (small : server c .count < 65536) where
+module _ (c : Controller) (m d r : List ℕ) (limit eop : ℕ) (nc : memoryToMemory c ≡ false) (nd : dropped c ≡ false) (ns : eqb (serviceOf (servingChannel c .mode)) 3 ≡ false)
+    (below : servingChannel c .address < 65536) (small : servingChannel c .count < 65536) where
   abbrev ch : Channel
-  ch = server c
+  ch = servingChannel c
 
   abbrev once : Bool
   once = eqb (serviceOf (ch .mode)) 1
@@ -99,12 +99,12 @@ module _ (c : Controller) (m d r : List ℕ) (limit eop : ℕ) (nc : copies c �
   unfolding short
   short-is n h = let s = stands n h in simp (s .mode, s .used, s .written, s .room)
 
-  cascade-is : (n : ℕ) → n ≤ ch .count → eqb (serviceOf (server (here n .controller) .mode)) 3 ≡ false
+  cascade-is : (n : ℕ) → n ≤ ch .count → eqb (serviceOf (servingChannel (here n .controller) .mode)) 3 ≡ false
   cascade-is n h = ap (λ (x : ℕ). eqb (serviceOf x) 3) (stands n h .mode) ∙ ns
 
-  copies-after : (n : ℕ) → copies (here n .controller) ≡ copies c
-  unfolding reached travelled copies
-  copies-after n = when-both (λ (w : World). copies (w .controller) ≡ copies c) (eqb n 0) refl refl
+  memoryToMemory-after : (n : ℕ) → memoryToMemory (here n .controller) ≡ memoryToMemory c
+  unfolding reached travelled memoryToMemory
+  memoryToMemory-after n = when-both (λ (w : World). memoryToMemory (w .controller) ≡ memoryToMemory c) (eqb n 0) refl refl
 
   pub serving-after : (n : ℕ) → here n .controller .serving ≡ c .serving
   unfolding reached travelled
@@ -119,14 +119,14 @@ module _ (c : Controller) (m d r : List ℕ) (limit eop : ℕ) (nc : copies c �
   free-after n h a =
       let s = stands n h in
       let more : limit - n ≡ 0 → ⊥ = λ e. omega (arith, a .most) in
-      stops-none (here n) d (limit - n) (s .copies ∙ nc) (s .dropped ∙ nd) (cascade-is n h) (ne-eqb _ _ more)
+      stops-none (here n) d (limit - n) (s .memoryToMemory ∙ nc) (s .dropped ∙ nd) (cascade-is n h) (ne-eqb _ _ more)
       (short-is n h ∙ short-no (writes ch) (reads ch) n (length d) (length r) (λ e. omega (arith, a .bytes e)) (λ e. omega (arith, a .space e)))
 
   tc-after : (n : ℕ) → n ≤ ch .count → reachesTc (here n .controller) ≡ eqb (ch .count - n) 0
-  tc-after n h = let s = stands n h in tc-is (here n .controller) (s .copies ∙ nc) ∙ ap (λ (x : ℕ). eqb x 0) (s .count)
+  tc-after n h = let s = stands n h in tc-is (here n .controller) (s .memoryToMemory ∙ nc) ∙ ap (λ (x : ℕ). eqb x 0) (s .count)
 
   single-after : (n : ℕ) → n ≤ ch .count → single (here n .controller) ≡ once
-  single-after n h = let s = stands n h in single-is (here n .controller) (s .copies ∙ nc) ∙ ap (λ (x : ℕ). eqb (serviceOf x) 1) (s .mode)
+  single-after n h = let s = stands n h in single-is (here n .controller) (s .memoryToMemory ∙ nc) ∙ ap (λ (x : ℕ). eqb (serviceOf x) 1) (s .mode)
 
   way : Way d here once (ch .count)
   way = record { more = λ n h. reached-more c m d r n h small below nc; tc = tc-after; lone = single-after; made = transfers-after }
@@ -155,7 +155,7 @@ module _ (c : Controller) (m d r : List ℕ) (limit eop : ℕ) (nc : copies c �
       let a = allowed-by n h in
       ap (λ (w : World). runOf limit eop d w) (sym (reached-none c m d r))
       ∙ way-end limit eop d here once (ch .count) way n u (a .most) (unstopped n (u .most) a)
-      ∙ ap (λ (x : Controller). stop (withController (here n) (when (eqb n (ch .count + 1) || eqb n eop) x (ended (here n .controller)))) Ended) (over-is (here n .controller) (eqb n (ch .count + 1)) (copies-after n ∙ nc))
+      ∙ ap (λ (x : Controller). stop (withController (here n) (when (eqb n (ch .count + 1) || eqb n eop) x (ended (here n .controller)))) Ended) (afterTcOrEop-is (here n .controller) (eqb n (ch .count + 1)) (memoryToMemory-after n ∙ nc))
 
   -- a device whose stock is used up is short
   short-after : (n : ℕ) → n ≤ ch .count → n ≡ stockOf ch (length d) (length r) → short (here n) d ≡ true
@@ -175,7 +175,7 @@ module _ (c : Controller) (m d r : List ℕ) (limit eop : ℕ) (nc : copies c �
       let a = allowed-by n (omega arith) in
       let within : n ≤ ch .count = omega (arith, u .most) in
       let s = stands n within in
-      let still = s .copies ∙ nc in
+      let still = s .memoryToMemory ∙ nc in
       let line = s .dropped ∙ nd in
       ap (λ (w : World). runOf limit eop d w) (sym (reached-none c m d r))
       ∙ way-on limit eop d here once (ch .count) way (untilEnd once (ch .count) eop) u n h (a .most) (unstopped n (omega arith) a)

@@ -17,10 +17,10 @@ use Rattle.am9517.specs.Modes.{decrement}
 use Rattle.am9517.specs.Serving.{active}
 use Rattle.am9517.specs.declared.Channel.{Channel}
 use Rattle.am9517.specs.declared.Controller.{Controller}
-use Rattle.service.specs.World.{World, startOf, copies, server}
+use Rattle.service.specs.World.{World, startOf, memoryToMemory, servingChannel}
 use Rattle.service.specs.Stops.{dropped}
-use Rattle.service.specs.States.{plain, latches, latched, cost}
-use Rattle.service.specs.Transfer.{at, stepped, writes, reads, moved}
+use Rattle.service.specs.States.{statesWithoutS1, needsS1, latched, cost}
+use Rattle.service.specs.Transfer.{withCurrent, stepped, writes, reads, moved}
 use Rattle.service.specs.Run.{transferred}
 use Rattle.service.specs.Closed.{along, onward, entered, spread, movedOn, statesOf, travelled, reached}
 use Rattle.words.proofs.ChoiceLaws.{when-both, when-same, never}
@@ -44,8 +44,8 @@ count-left count j h l = omega arith
 pub stepped-onward : (ch : Channel) (j : ℕ) → stepped (onward ch j) ≡ onward ch (j + 1)
 unfolding onward along
 stepped-onward ch j =
-    ap (λ (a : ℕ). at ch a (step 16 true (steps 16 true (ch .count) j))) (steps-next 16 (decrement (ch .mode)) (ch .address) j)
-    ∙ ap (λ (n : ℕ). at ch (steps 16 (decrement (ch .mode)) (ch .address) (j + 1)) n) (steps-next 16 true (ch .count) j)
+    ap (λ (a : ℕ). withCurrent ch a (step 16 true (steps 16 true (ch .count) j))) (steps-next 16 (decrement (ch .mode)) (ch .address) j)
+    ∙ ap (λ (n : ℕ). withCurrent ch (steps 16 (decrement (ch .mode)) (ch .address) (j + 1)) n) (steps-next 16 true (ch .count) j)
 
 pub along-none : (ch : Channel) → ch .address < 65536 → along ch 0 ≡ ch .address
 unfolding along
@@ -54,8 +54,8 @@ along-none ch h = steps-none 16 (decrement (ch .mode)) (ch .address) h
 pub stepped-first : (ch : Channel) → stepped ch ≡ onward ch 1
 unfolding onward along
 stepped-first ch =
-    ap (λ (a : ℕ). at ch a (step 16 true (ch .count))) (sym (steps-one 16 (decrement (ch .mode)) (ch .address)))
-    ∙ ap (λ (n : ℕ). at ch (steps 16 (decrement (ch .mode)) (ch .address) 1) n) (sym (steps-one 16 true (ch .count)))
+    ap (λ (a : ℕ). withCurrent ch a (step 16 true (ch .count))) (sym (steps-one 16 (decrement (ch .mode)) (ch .address)))
+    ∙ ap (λ (n : ℕ). withCurrent ch (steps 16 (decrement (ch .mode)) (ch .address) 1) n) (sym (steps-one 16 true (ch .count)))
 
 pub onward-mode : (ch : Channel) (j : ℕ) → onward ch j .mode ≡ ch .mode
 unfolding onward
@@ -66,7 +66,7 @@ unfolding onward
 onward-count ch j = refl
 
 -- whether a line drops depends on pins, command, serving channel and its mode alone
-dropped-by : (c x : Controller) → x .pins ≡ c .pins → x .command ≡ c .command → x .serving ≡ c .serving → server x .mode ≡ server c .mode → dropped x ≡ dropped c
+dropped-by : (c x : Controller) → x .pins ≡ c .pins → x .command ≡ c .command → x .serving ≡ c .serving → servingChannel x .mode ≡ servingChannel c .mode → dropped x ≡ dropped c
 unfolding dropped active
 dropped-by c x p k n e = rw e (simp (p, k, n))
 
@@ -84,7 +84,7 @@ movedWith w d ch =
       states = w .states + cost c (ch .address);
     }
 
-moved-by : (w : World) (d : List ℕ) (ch : Channel) → server (w .controller) ≡ ch → moved w d ≡ movedWith w d ch
+moved-by : (w : World) (d : List ℕ) (ch : Channel) → servingChannel (w .controller) ≡ ch → moved w d ≡ movedWith w d ch
 unfolding moved
 moved-by w d ch e = ap (movedWith w d) e
 
@@ -99,7 +99,7 @@ next-mul n p = ap (λ (k : ℕ). k * p) (add-one n) ∙ suc-mul n p
 
 module _ (c : Controller) (m d r : List ℕ) where
   abbrev ch : Channel
-  ch = server c
+  ch = servingChannel c
 
   memory-on : (b : Bool) (j : ℕ) → when b (set (when b (spread (along ch) (λ (i : ℕ). i) d m j) m) (along ch j) (getD d (when b j 0) 0)) (when b (spread (along ch) (λ (i : ℕ). i) d m j) m) ≡ when b (spread (along ch) (λ (i : ℕ). i) d m (j + 1)) m
   unfolding when
@@ -112,7 +112,7 @@ module _ (c : Controller) (m d r : List ℕ) where
   room-on true false j h = spread-more (λ (i : ℕ). i) (along ch) m r j j (along ch j) refl refl _ refl
   room-on false w j h = refl
 
-  pub server-there : (n : ℕ) → (ch .count ≡ 0 → ⊥) → server (movedOn c n) ≡ onward ch n
+  pub server-there : (n : ℕ) → (ch .count ≡ 0 → ⊥) → servingChannel (movedOn c n) ≡ onward ch n
   server-there n nz = getD-set-same (c .channels) (c .serving) (onward ch n) blank (inside-of (c .channels) (c .serving) nz)
 
   abbrev down : Bool
@@ -120,10 +120,10 @@ module _ (c : Controller) (m d r : List ℕ) where
 
   -- the states of one transfer more
   states-on : (j : ℕ) → statesOf c (j + 1) + cost (movedOn c (j + 1)) (along ch (j + 1)) ≡ statesOf c (j + 1 + 1)
-  unfolding statesOf cost plain latches along
+  unfolding statesOf cost statesWithoutS1 needsS1 along
   states-on j =
       let a = ch .address in
-      let p = plain c in
+      let p = statesWithoutS1 c in
       let back : j + 1 - 1 ≡ j = omega arith in
       let back' : j + 1 + 1 - 1 ≡ j + 1 = omega arith in
       let more = entered-more down a j in
@@ -154,11 +154,11 @@ module _ (c : Controller) (m d r : List ℕ) where
 
   -- what stays and what goes on in the world after n transfers
   pub record Standing (w : World) (n : ℕ) : Type 0 where
-    pub copies : copies (w .controller) ≡ copies c
+    pub memoryToMemory : memoryToMemory (w .controller) ≡ memoryToMemory c
     pub dropped : dropped (w .controller) ≡ dropped c
     pub serving : w .controller .serving ≡ c .serving
-    pub mode : server (w .controller) .mode ≡ ch .mode
-    pub count : server (w .controller) .count ≡ ch .count - n
+    pub mode : servingChannel (w .controller) .mode ≡ ch .mode
+    pub count : servingChannel (w .controller) .count ≡ ch .count - n
     pub transfers : w .transfers ≡ n
     pub used : w .used ≡ when (writes ch) n 0
     pub written : w .written ≡ when (reads ch) n 0
@@ -168,7 +168,7 @@ module _ (c : Controller) (m d r : List ℕ) where
   unfolding when
   standing-start =
       record {
-        copies = refl;
+        memoryToMemory = refl;
         dropped = refl;
         serving = refl;
         mode = refl;
@@ -180,11 +180,11 @@ module _ (c : Controller) (m d r : List ℕ) where
       }
 
   standing-on : (j : ℕ) → j + 1 ≤ ch .count → ch .count < 65536 → Standing (travelled c m d r (j + 1)) (j + 1)
-  unfolding travelled copies
+  unfolding travelled memoryToMemory
   standing-on j h l =
-      let there : server (movedOn c (j + 1)) ≡ onward ch (j + 1) = server-there (j + 1) (λ e. omega arith) in
+      let there : servingChannel (movedOn c (j + 1)) ≡ onward ch (j + 1) = server-there (j + 1) (λ e. omega arith) in
       record {
-        copies = refl;
+        memoryToMemory = refl;
         dropped = dropped-by c (movedOn c (j + 1)) refl refl refl (ap (λ (x : Channel). x .mode) there ∙ onward-mode ch (j + 1));
         serving = refl;
         mode = ap (λ (x : Channel). x .mode) there ∙ onward-mode ch (j + 1);
@@ -210,9 +210,9 @@ module _ (c : Controller) (m d r : List ℕ) where
       rw (reached-some (suc j) (omega arith), ← e) (standing-on j (omega arith) l)
 
   -- One transfer more, as long as the count lasts.
-  pub reached-more : (n : ℕ) → n ≤ ch .count → ch .count < 65536 → ch .address < 65536 → copies c ≡ false → transferred (reached c m d r n) d ≡ reached c m d r (n + 1)
+  pub reached-more : (n : ℕ) → n ≤ ch .count → ch .count < 65536 → ch .address < 65536 → memoryToMemory c ≡ false → transferred (reached c m d r n) d ≡ reached c m d r (n + 1)
   reached-more n h l b nc =
-      transferred-moved 0 d (reached c m d r n) (standing n h l .copies ∙ nc) ∙ go n h
+      transferred-moved 0 d (reached c m d r n) (standing n h l .memoryToMemory ∙ nc) ∙ go n h
     where
       go : (n : ℕ) → n ≤ ch .count → moved (reached c m d r n) d ≡ reached c m d r (n + 1)
       go zero h = rw (reached-none, reached-some 1 (omega arith)) (first-move b)

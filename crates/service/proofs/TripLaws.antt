@@ -16,7 +16,7 @@ use Rattle.am9517.specs.declared.Controller.{Controller}
 use Rattle.service.specs.declared.Reason.the-variants.{Ended, Limit, Short}
 use Rattle.service.specs.declared.Trip.{Trip}
 use Rattle.service.specs.declared.copying.Route.{Route}
-use Rattle.service.specs.World.{World, startOf, withController, copies, server, Stop, stop}
+use Rattle.service.specs.World.{World, startOf, withController, memoryToMemory, servingChannel, Stop, stop}
 use Rattle.service.specs.Stops.{dropped}
 use Rattle.service.specs.Ends.{finished}
 use Rattle.service.specs.Run.{runOf}
@@ -34,9 +34,9 @@ use Rattle.service.proofs.CopyLaws.{copying-some, copy-ends, copy-halts
 
 -- n transfers, put together
 pub trip-travelled : (c : Controller) (m d r : List ℕ) (n : ℕ) (t : Trip) (m' r' : List ℕ) → 0 < n
-    → t .controller ≡ movedOn c n → t .transfers ≡ n → t .used ≡ when (writes (server c)) n 0 → t .written ≡ when (reads (server c)) n 0 → t .states ≡ statesOf c n
-    → m' ≡ when (writes (server c)) (spread (along (server c)) (λ (i : ℕ). i) d m n) m
-    → r' ≡ when (reads (server c)) (spread (λ (i : ℕ). i) (along (server c)) m r n) r
+    → t .controller ≡ movedOn c n → t .transfers ≡ n → t .used ≡ when (writes (servingChannel c)) n 0 → t .written ≡ when (reads (servingChannel c)) n 0 → t .states ≡ statesOf c n
+    → m' ≡ when (writes (servingChannel c)) (spread (along (servingChannel c)) (λ (i : ℕ). i) d m n) m
+    → r' ≡ when (reads (servingChannel c)) (spread (λ (i : ℕ). i) (along (servingChannel c)) m r n) r
     → tripWorld t m' r' ≡ reached c m d r n
 unfolding travelled
 trip-travelled c m d r n t m' r' h ec en eu ew es em er = rw (ec, en, eu, ew, es, em, er) (sym (reached-some c m d r n h))
@@ -65,25 +65,25 @@ trip-closed t u m r w n tc eop e es eu =
 
 -- A service that is not memory-to-memory, whose line and mode let it transfer.
 pub record Ready (c : Controller) : Type 0 where
-  pub device : copies c ≡ false
+  pub device : memoryToMemory c ≡ false
   pub line : dropped c ≡ false
-  pub mode : eqb (serviceOf (server c .mode)) 3 ≡ false
-  pub address : server c .address < 65536
-  pub count : server c .count < 65536
+  pub mode : eqb (serviceOf (servingChannel c .mode)) 3 ≡ false
+  pub address : servingChannel c .address < 65536
+  pub count : servingChannel c .count < 65536
 
 module _ (c : Controller) (ready : Ready c) (m d r : List ℕ) (limit eop stock most far : ℕ)
-    (is-stock : stock ≡ stockOf (server c) (length d) (length r)) (is-most : most ≡ untilEnd (eqb (serviceOf (server c .mode)) 1) (server c .count) eop) (is-far : far ≡ least limit stock) where
-  far-is : far ≡ least limit (stockOf (server c) (length d) (length r))
+    (is-stock : stock ≡ stockOf (servingChannel c) (length d) (length r)) (is-most : most ≡ untilEnd (eqb (serviceOf (servingChannel c .mode)) 1) (servingChannel c .count) eop) (is-far : far ≡ least limit stock) where
+  far-is : far ≡ least limit (stockOf (servingChannel c) (length d) (length r))
   far-is = is-far ∙ ap (least limit) is-stock
 
-  pub enough : (n : ℕ) → length m ≡ 65536 → n ≤ most → n ≤ far → Stocked (server c) m d r n
-  enough n size h l = stocked (server c) m d r limit n size (until-most (eqb (serviceOf (server c .mode)) 1) (server c .count) eop n (ready .count) (omega arith)) (omega (arith, far-is))
+  pub enough : (n : ℕ) → length m ≡ 65536 → n ≤ most → n ≤ far → Stocked (servingChannel c) m d r n
+  enough n size h l = stocked (servingChannel c) m d r limit n size (until-most (eqb (serviceOf (servingChannel c .mode)) 1) (servingChannel c .count) eop n (ready .count) (omega arith)) (omega (arith, far-is))
 
   pub service-ends : most ≤ far → (t u : Trip) (m' r' : List ℕ) → tripWorld t m' r' ≡ reached c m d r most
-      → u ≡ withTrip t (closing (t .controller) (c .serving) (eqb most (server c .count + 1)) (eqb most eop))
+      → u ≡ withTrip t (closing (t .controller) (c .serving) (eqb most (servingChannel c .count + 1)) (eqb most eop))
       → stop (tripWorld u m' r') Ended ≡ runOf limit eop d (startOf c m r)
   service-ends h t u m' r' e eu =
-      trip-closed t u m' r' (reached c m d r most) (c .serving) (eqb most (server c .count + 1)) (eqb most eop) e (serving-after c m d r limit eop (ready .device) (ready .line) (ready .mode) (ready .address) (ready .count) most) eu
+      trip-closed t u m' r' (reached c m d r most) (c .serving) (eqb most (servingChannel c .count + 1)) (eqb most eop) e (serving-after c m d r limit eop (ready .device) (ready .line) (ready .mode) (ready .address) (ready .count) most) eu
       ∙ sym (run-ends c m d r limit eop (ready .device) (ready .line) (ready .mode) (ready .address) (ready .count) most is-most (omega (arith, far-is)))
 
   pub service-halts : far < most → (t : Trip) (m' r' : List ℕ) → tripWorld t m' r' ≡ reached c m d r far
@@ -113,7 +113,7 @@ module _ (ρ : Route) (m : List ℕ) (n : ℕ) (up : ρ .«to_down» ≡ false) 
 
 -- A memory-to-memory service, whose route was taken out.
 pub record Copying (c : Controller) (ρ : Route) : Type 0 where
-  pub copies : copies c ≡ true
+  pub memoryToMemory : memoryToMemory c ≡ true
   pub route : ρ ≡ routeOf c
   pub source : ρ .from < 65536
   pub target : ρ .to < 65536
@@ -141,8 +141,8 @@ module _ (c : Controller) (ρ : Route) (ready : Copying c ρ) (m d r : List ℕ)
   copy-service-ends h t u m' e eu =
       let f : ℕ → World → Stop = λ k x. stop (withController x (finished (put (x .controller) Request (withBit (x .controller .request) 0 false)) 1 (eqb most (k + 1)))) Ended in
       ap (λ (x : Trip). stop (tripWorld x m' r) Ended) eu ∙ ap (f (ρ .count)) e ∙ ap (λ (x : Route). f (x .count) (reachedCopying c m r most)) (ready .route)
-      ∙ sym (copy-ends c m r (ready .copies) source-below target-below count-below limit eop d most most-is h)
+      ∙ sym (copy-ends c m r (ready .memoryToMemory) source-below target-below count-below limit eop d most most-is h)
 
   pub copy-service-halts : limit < most → (t : Trip) (m' : List ℕ) → tripWorld t m' r ≡ reachedCopying c m r limit → stop (tripWorld t m' r) Limit ≡ runOf limit eop d (startOf c m r)
   copy-service-halts h t m' e =
-      ap (λ (w : World). stop w Limit) e ∙ sym (copy-halts c m r (ready .copies) source-below target-below count-below limit eop d (omega (arith, most-is)))
+      ap (λ (w : World). stop w Limit) e ∙ sym (copy-halts c m r (ready .memoryToMemory) source-below target-below count-below limit eop d (omega (arith, most-is)))

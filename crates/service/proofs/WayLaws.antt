@@ -14,7 +14,7 @@ use Rattle.am9517.specs.declared.Controller.{Controller}
 use Rattle.service.specs.declared.Reason.the-variants.{Ended}
 use Rattle.service.specs.World.{World, withController, stop}
 use Rattle.service.specs.Stops.{stops}
-use Rattle.service.specs.Ends.{reachesTc, over, single, ends}
+use Rattle.service.specs.Ends.{reachesTc, afterTcOrEop, single, ends}
 use Rattle.service.specs.Run.{transferred, runOf}
 use Rattle.words.proofs.ChoiceLaws.{never, not-true}
 use Rattle.service.proofs.BoundLaws.{Until}
@@ -43,7 +43,7 @@ module _ (c : Controller) (w : World) (eop : ℕ) where
   ends-none t e s x = simp (t, e, s)
 
   ends-met : (tc e : Bool) → reachesTc c ≡ tc → eqb (w .transfers) eop ≡ e → (tc || e ≡ false → single c ≡ true)
-      → Gives (ends c w eop) (stop (withController w (when (tc || e) (over (w .controller) tc) (ended (w .controller)))) Ended)
+      → Gives (ends c w eop) (stop (withController w (when (tc || e) (afterTcOrEop (w .controller) tc) (ended (w .controller)))) Ended)
   unfolding first when
   ends-met true e t g s x = simp t
   ends-met false true t g s x = simp (t, g)
@@ -81,7 +81,7 @@ module _ (limit eop : ℕ) (d : List ℕ) (here : ℕ → World) (once : Bool) (
   -- The n-th transfer ends the service.
   pub way-end : n ≤ limit → Unstopped n
       → runOf limit eop d (here 0)
-      ≡ stop (withController (here n) (when (eqb n (count + 1) || eqb n eop) (over (here n .controller) (eqb n (count + 1))) (ended (here n .controller)))) Ended
+      ≡ stop (withController (here n) (when (eqb n (count + 1) || eqb n eop) (afterTcOrEop (here n .controller) (eqb n (count + 1))) (ended (here n .controller)))) Ended
   way-end l f =
       let j = n - 1 in
       let is : j + 1 ≡ n = omega (arith, u .some) in

@@ -12,10 +12,10 @@ use Rattle.am9517.specs.declared.Channel.{Channel}
 use Rattle.am9517.specs.declared.Controller.{Controller}
 use Rattle.service.specs.declared.Trip.{Trip}
 use Rattle.service.specs.declared.copying.Route.{Route}
-use Rattle.service.specs.World.{World, startOf, server}
+use Rattle.service.specs.World.{World, startOf, servingChannel}
 use Rattle.service.specs.Ends.{finished}
-use Rattle.service.specs.Transfer.{at, writes, reads}
-use Rattle.service.specs.States.{plain, latches, latched, copyCost}
+use Rattle.service.specs.Transfer.{withCurrent, writes, reads}
+use Rattle.service.specs.States.{statesWithoutS1, needsS1, latched, copyCost}
 
 unfoldable pub least : ℕ → ℕ → ℕ
 least a b = when (ltb a b) a b
@@ -34,14 +34,14 @@ along ch j = steps 16 (decrement (ch .mode)) (ch .address) j
 
 -- the channel after j transfers
 unfoldable pub onward : Channel → ℕ → Channel
-onward ch j = at ch (along ch j) (steps 16 true (ch .count) j)
+onward ch j = withCurrent ch (along ch j) (steps 16 true (ch .count) j)
 
 -- how many addresses from a on there are before they turn over, and where they go on then
 unfoldable pub reachOf : Bool → ℕ → ℕ
 reachOf down a = when down (a + 1) (65536 - a)
 
-unfoldable pub turnedTo : Bool → ℕ
-turnedTo down = when down 65535 0
+unfoldable pub wrappedTo : Bool → ℕ
+wrappedTo down = when down 65535 0
 
 -- the pages of 256 bytes entered by j steps from a
 unfoldable pub entered : Bool → ℕ → ℕ → ℕ
@@ -59,17 +59,17 @@ carried to from m (suc j) = set (carried to from m j) (to j) (getD (carried to f
 
 -- the controller after n transfers, at least one, of a service that is not memory-to-memory
 abbrev pub movedOn : Controller → ℕ → Controller
-movedOn c n = latched (withChannel c (c .serving) (onward (server c) n)) (along (server c) (n - 1))
+movedOn c n = latched (withChannel c (c .serving) (onward (servingChannel c) n)) (along (servingChannel c) (n - 1))
 
 -- the states of n transfers: S1 for the first address where the latch asks for it, and for each page entered
 unfoldable pub statesOf : Controller → ℕ → ℕ
 statesOf c n =
-    n * plain c + (when (latches c (server c .address)) 1 0 + entered (decrement (server c .mode)) (server c .address) (n - 1))
+    n * statesWithoutS1 c + (when (needsS1 c (servingChannel c .address)) 1 0 + entered (decrement (servingChannel c .mode)) (servingChannel c .address) (n - 1))
 
 -- the world after n transfers, at least one, of a service that is not memory-to-memory
 unfoldable pub travelled : Controller → List ℕ → List ℕ → List ℕ → ℕ → World
 travelled c m d r n =
-    let ch = server c in
+    let ch = servingChannel c in
     record {
       controller = movedOn c n;
       memory = when (writes ch) (spread (along ch) (λ (i : ℕ). i) d m n) m;
@@ -99,7 +99,7 @@ carriedBy ρ m n =
 -- the controller after j transfers of memory-to-memory, the last of this byte
 abbrev pub copiedOn : Controller → ℕ → ℕ → Controller
 copiedOn c byte j =
-    withChannel (withChannel (put c Temporary byte) 0 (at (channel c 0) (sourceAlong c j) (channel c 0 .count))) 1 (onward (channel c 1) j)
+    withChannel (withChannel (put c Temporary byte) 0 (withCurrent (channel c 0) (sourceAlong c j) (channel c 0 .count))) 1 (onward (channel c 1) j)
 
 -- the memory after j transfers of memory-to-memory
 abbrev pub copiedBytes : Controller → List ℕ → ℕ → List ℕ

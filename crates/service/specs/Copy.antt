@@ -1,4 +1,4 @@
--- "Memory-to-memory": one transfer of it. When a service is one, World `copies` says; what stops it, Stops; its end, Ends `over`.
+-- "Memory-to-memory": one transfer of it. When a service is one, World `memoryToMemory` says; what stops it, Stops; its end, Ends `afterTcOrEop`.
 use Prim.Native.Nat.{ℕ, _+_}
 use mathlib.Core.List.{List}
 use lib.ListN.{getD, set}
@@ -9,14 +9,14 @@ use Rattle.am9517.specs.Modes.{addressHold, decrement}
 use Rattle.am9517.specs.declared.Channel.{Channel}
 use Rattle.am9517.specs.declared.Controller.{Controller}
 use Rattle.service.specs.World.{World}
-use Rattle.service.specs.Transfer.{at, stepped}
+use Rattle.service.specs.Transfer.{withCurrent, stepped}
 use Rattle.service.specs.States.{copyCost}
 
 -- channel 0's address after a transfer: it "stays under command bit 1"; its count isn't touched
 abbrev pub source : Controller → Channel
 source c =
     let ch = channel c 0 in
-    at ch (when (addressHold c) (ch .address) (step 16 (decrement (ch .mode)) (ch .address))) (ch .count)
+    withCurrent ch (when (addressHold c) (ch .address) (step 16 (decrement (ch .mode)) (ch .address))) (ch .count)
 
 -- "byte at channel 0's address to the temporary byte, then to channel 1's address; both step as their mode bit 5 says, but channel 0
 -- stays under command bit 1. Channel 1's count steps .."

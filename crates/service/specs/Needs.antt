@@ -6,7 +6,7 @@ use mathlib.Core.List.{List}
 use lib.ListN.{length}
 use Rattle.am9517.specs.declared.Channel.{Channel}
 use Rattle.am9517.specs.declared.Controller.{Controller}
-use Rattle.service.specs.World.{copies, server}
+use Rattle.service.specs.World.{memoryToMemory, servingChannel}
 use Rattle.service.specs.Transfer.{writes, reads}
 
 -- a memory and a service that a run may go over

@@ -4,7 +4,7 @@ use mathlib.Core.List.{List}
 use Rattle.words.specs.Choice.{when}
 use Rattle.words.specs.Grounds.{first}
 use Rattle.service.specs.declared.Reason.the-variants.{Limit}
-use Rattle.service.specs.World.{World, copies, Stop, stop}
+use Rattle.service.specs.World.{World, memoryToMemory, Stop, stop}
 use Rattle.service.specs.Stops.{stops}
 use Rattle.service.specs.Transfer.{moved}
 use Rattle.service.specs.Copy.{copied}
@@ -12,7 +12,7 @@ use Rattle.service.specs.Ends.{ends}
 
 -- the world after one transfer of either sort; d is the device's bytes
 unfoldable pub transferred : World → List ℕ → World
-transferred w d = when (copies (w .controller)) (copied w) (moved w d)
+transferred w d = when (memoryToMemory (w .controller)) (copied w) (moved w d)
 
 -- with left more transfers allowed; the transfer of this call whose number is eop meets external EOP
 unfoldable pub runOf : ℕ → ℕ → List ℕ → World → Stop

@@ -10,15 +10,15 @@ use Rattle.am9517.specs.Modes.{compressed}
 use Rattle.am9517.specs.declared.Controller.{Controller}
 
 -- the states of a transfer without S1: S2, S3 and S4; compressed leaves S3 out
-unfoldable pub plain : Controller → ℕ
-plain c = when (compressed c) 2 3
+unfoldable pub statesWithoutS1 : Controller → ℕ
+statesWithoutS1 c = when (compressed c) 2 3
 
 -- state S1 is needed for the address a
-unfoldable pub latches : Controller → ℕ → Bool
-latches c a = not (eqb (c .«latch_full») 1) || not (eqb (c .latch) (highByte a))
+unfoldable pub needsS1 : Controller → ℕ → Bool
+needsS1 c a = not (eqb (c .«latch_full») 1) || not (eqb (c .latch) (highByte a))
 
 unfoldable pub cost : Controller → ℕ → ℕ
-cost c a = plain c + when (latches c a) 1 0
+cost c a = statesWithoutS1 c + when (needsS1 c a) 1 0
 
 abbrev pub latched : Controller → ℕ → Controller
 latched c a = put (put c LatchFull 1) Latch (highByte a)

@@ -11,27 +11,27 @@ use Rattle.am9517.specs.Modes.{typeOf, serviceOf}
 use Rattle.am9517.specs.Serving.{active}
 use Rattle.am9517.specs.declared.Controller.{Controller}
 use Rattle.service.specs.declared.Reason.the-variants.{Dropped, Cascade, Limit, Short}
-use Rattle.service.specs.World.{World, withController, copies, server, Stop, stop}
+use Rattle.service.specs.World.{World, withController, memoryToMemory, servingChannel, Stop, stop}
 
 -- the mode is demand or cascade, and the line is inactive
 unfoldable pub dropped : Controller → Bool
-dropped c = (eqb (serviceOf (server c .mode)) 0 || eqb (serviceOf (server c .mode)) 3) && not (active c (c .serving))
+dropped c = (eqb (serviceOf (servingChannel c .mode)) 0 || eqb (serviceOf (servingChannel c .mode)) 3) && not (active c (c .serving))
 
 -- "a write with no device byte left, or a read with no room left"
 unfoldable pub short : World → List ℕ → Bool
 short w d =
-    eqb (typeOf (server (w .controller) .mode)) 1 && leb (length d) (w .used)
-    || eqb (typeOf (server (w .controller) .mode)) 2 && leb (length (w .room)) (w .written)
+    eqb (typeOf (servingChannel (w .controller) .mode)) 1 && leb (length d) (w .used)
+    || eqb (typeOf (servingChannel (w .controller) .mode)) 2 && leb (length (w .room)) (w .written)
 
 -- 1. "demand or cascade with the line inactive: service ends, "dropped""; 2. "cascade: stop, "cascade"; service stays open, nothing
 -- moves"; 3. "limit reached: stop, "limit"; service stays open"; 4. "a write with no device byte left, or a read with no room left:
 -- stop, "short"; service stays open". In memory-to-memory "steps 1, 2 and 4 don't apply".
 unfoldable pub stops : World → List ℕ → ℕ → List (Ground Stop)
 stops w d left =
-    when (copies (w .controller))
+    when (memoryToMemory (w .controller))
     (stop w Limit if eqb left 0 ∷ [])
     (stop (withController w (ended (w .controller))) Dropped if dropped (w .controller)
-    ∷ stop w Cascade if eqb (serviceOf (server (w .controller) .mode)) 3
+    ∷ stop w Cascade if eqb (serviceOf (servingChannel (w .controller) .mode)) 3
     ∷ stop w Limit if eqb left 0
     ∷ stop w Short if short w d
     ∷ [])

@@ -10,17 +10,17 @@ use Rattle.am9517.specs.State.{withChannel}
 use Rattle.am9517.specs.Modes.{typeOf, decrement}
 use Rattle.am9517.specs.declared.Channel.{Channel}
 use Rattle.am9517.specs.declared.Controller.{Controller}
-use Rattle.service.specs.World.{World, server}
+use Rattle.service.specs.World.{World, servingChannel}
 use Rattle.service.specs.States.{cost, latched}
 
 -- the channel at another address and count
-abbrev pub at : Channel → ℕ → ℕ → Channel
-at ch a n =
+abbrev pub withCurrent : Channel → ℕ → ℕ → Channel
+withCurrent ch a n =
     record { «base_address» = ch .«base_address»; address = a; «base_count» = ch .«base_count»; count = n; mode = ch .mode }
 
 -- "The address steps by one up or down and wraps modulo 65,536. The count steps down; from 0 it becomes FFFFh, which is TC."
 abbrev pub stepped : Channel → Channel
-stepped ch = at ch (step 16 (decrement (ch .mode)) (ch .address)) (step 16 true (ch .count))
+stepped ch = withCurrent ch (step 16 (decrement (ch .mode)) (ch .address)) (step 16 true (ch .count))
 
 -- a write, a read
 abbrev pub writes : Channel → Bool
@@ -34,7 +34,7 @@ reads ch = eqb (typeOf (ch .mode)) 2
 unfoldable pub moved : World → List ℕ → World
 moved w d =
     let c = w .controller in
-    let ch = server c in
+    let ch = servingChannel c in
     record {
       controller = latched (withChannel c (c .serving) (stepped ch)) (ch .address);
       memory = when (writes ch) (set (w .memory) (ch .address) (getD d (w .used) 0)) (w .memory);

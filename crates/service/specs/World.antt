@@ -4,7 +4,7 @@ use mathlib.Core.Bool.{Bool, _&&_}
 use mathlib.Core.List.{List}
 use lib.Dec.{eqb}
 use Rattle.am9517.specs.State.{channel}
-use Rattle.am9517.specs.Modes.{memoryToMemory}
+use Rattle.am9517.specs.Modes.{memoryToMemoryBit}
 use Rattle.am9517.specs.declared.Channel.{Channel}
 use Rattle.am9517.specs.declared.Controller.{Controller}
 use Rattle.service.specs.declared.Reason.{Reason}
@@ -28,12 +28,12 @@ withController w c =
     record { controller = c; memory = w .memory; room = w .room; transfers = w .transfers; used = w .used; written = w .written; states = w .states }
 
 -- "With command bit 0 set, a service of channel 0 is" memory-to-memory.
-unfoldable pub copies : Controller → Bool
-copies c = memoryToMemory c && eqb (c .serving) 0
+unfoldable pub memoryToMemory : Controller → Bool
+memoryToMemory c = memoryToMemoryBit c && eqb (c .serving) 0
 
 -- the serving channel
-abbrev pub server : Controller → Channel
-server c = channel c (c .serving)
+abbrev pub servingChannel : Controller → Channel
+servingChannel c = channel c (c .serving)
 
 -- where a run stops, and why
 pub record Stop : Type 0 where

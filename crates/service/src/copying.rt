@@ -22,7 +22,7 @@ ghost use Rattle.words.specs.Steps.{steps};
 ghost use Rattle.am9517.specs.State.{channel, put, Request};
 ghost use Rattle.words.specs.Bits.{withBit};
 ghost use Rattle.service.specs.Ends.{finished};
-ghost use Rattle.service.specs.World.{copies, startOf};
+ghost use Rattle.service.specs.World.{memoryToMemory, startOf};
 ghost use Rattle.service.specs.Run.{runOf};
 ghost use Rattle.service.specs.Answers.{given, stopped};
 ghost use Rattle.service.specs.Closed.{withTrip, carried, sourceAlong, copiedOn, routeOf, carriedBy, reachedCopying, tripWorld};
@@ -189,7 +189,7 @@ fn copy_closed(t: Trip, tc: bool) -> Trip
 }
 
 pub(crate) fn copy_service(c: Controller, memory: &mut [u8], limit: u64, eop_at: u64) -> Ran
-    requires { ⌜ (copies c ≡ true) × (length (now memory) ≡ 65536) ⌝ }
+    requires { ⌜ (memoryToMemory c ≡ true) × (length (now memory) ≡ 65536) ⌝ }
     ensures { λ r. ⌜ ((d room : List ℕ) → given r (now (memory .exit)) room ≡ stopped (runOf limit «eop_at» d (startOf c (now (memory .entry)) room))) ⌝ }
 {
     let route = route_of(c);

@@ -6,7 +6,7 @@ ghost use Prim.Native.Nat.{ℕ, _<_, _≤_};
 ghost use mathlib.Core.List.{List};
 ghost use lib.ListN.{length};
 ghost use Rattle.am9517.specs.Refusals.{refusal};
-ghost use Rattle.service.specs.World.{startOf, copies, stop};
+ghost use Rattle.service.specs.World.{startOf, memoryToMemory, stop};
 ghost use Rattle.service.specs.Run.{runOf};
 ghost use Rattle.service.specs.Answers.{given, stopped, refusedOf, runGrounds, ranOf};
 ghost use Rattle.service.specs.Closed.{tripWorld};
@@ -103,7 +103,7 @@ pub fn run(
     if no != 0 {
         return refused(c, no);
     }
-    if serving::copies(c) {
+    if serving::memory_to_memory(c) {
         return copying::copy_service(c, memory, limit, eop_at);
     }
     serving::device_service(c, memory, device, room, limit, eop_at)

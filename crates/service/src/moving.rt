@@ -5,7 +5,7 @@ ghost use mathlib.Core.Bool.{true, false};
 ghost use Prim.Native.Nat.{ℕ, _+_, _-_, _≤_, _<_};
 ghost use lib.ListN.{length};
 ghost use Rattle.words.specs.Steps.{steps};
-ghost use Rattle.service.specs.Closed.{spread, reachOf, turnedTo};
+ghost use Rattle.service.specs.Closed.{spread, reachOf, wrappedTo};
 ghost use Rattle.service.specs.Needs.{Straight};
 
 // n bytes from `from` on to `to` on, both upward.
@@ -53,8 +53,8 @@ pub(crate) fn reach(down: bool, at: usize) -> usize
 }
 
 // Where the addresses go on after they turned over.
-fn turned_to(down: bool) -> usize
-    ensures { λ r. ⌜ r ≡ turnedTo down ⌝ }
+fn wrapped_to(down: bool) -> usize
+    ensures { λ r. ⌜ r ≡ wrappedTo down ⌝ }
 {
     if down { 65535 } else { 0 }
 }
@@ -91,7 +91,7 @@ pub(crate) fn store(memory: &mut [u8], down: bool, at: usize, device: &[u8], n: 
     let first = lesser(n, reach(down, at));
     store_straight(memory, down, at, device, 0, first);
     if first < n {
-        store_straight(memory, down, turned_to(down), device, first, n - first);
+        store_straight(memory, down, wrapped_to(down), device, first, n - first);
     }
 }
 
@@ -103,6 +103,6 @@ pub(crate) fn load(memory: &[u8], down: bool, at: usize, room: &mut [u8], n: usi
     let first = lesser(n, reach(down, at));
     load_straight(memory, down, at, room, 0, first);
     if first < n {
-        load_straight(memory, down, turned_to(down), room, first, n - first);
+        load_straight(memory, down, wrapped_to(down), room, first, n - first);
     }
 }

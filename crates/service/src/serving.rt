@@ -14,7 +14,7 @@ ghost use mathlib.Core.Path.{_≡_};
 ghost use mathlib.Core.Bool.{false};
 ghost use Prim.Native.Nat.{ℕ, _<_};
 ghost use lib.ListN.{length};
-ghost use Rattle.service.specs.World.{copies, startOf, stop};
+ghost use Rattle.service.specs.World.{memoryToMemory, startOf, stop};
 ghost use Rattle.service.specs.Stops.{dropped};
 ghost use Rattle.service.specs.Run.{runOf};
 ghost use Rattle.service.specs.Answers.{given, stopped};
@@ -23,8 +23,8 @@ ghost use mathlib.Core.List.{List};
 ghost use Rattle.service.specs.Needs.{Open};
 
 // The open service is memory-to-memory.
-pub(crate) fn copies(c: Controller) -> bool
-    ensures { λ r. ⌜ r ≡ copies c ⌝ }
+pub(crate) fn memory_to_memory(c: Controller) -> bool
+    ensures { λ r. ⌜ r ≡ memoryToMemory c ⌝ }
 {
     (bit(c.command, 0) == 1) & (c.serving == 0)
 }
@@ -75,7 +75,7 @@ pub(crate) fn device_service(
     limit: u64,
     eop_at: u64,
 ) -> Ran
-    requires { ⌜ copies c ≡ false ⌝ }
+    requires { ⌜ memoryToMemory c ≡ false ⌝ }
     requires { ⌜ Open c (now memory) ⌝ }
     ensures { λ r. ⌜ given r (now (memory .exit)) (now (room .exit)) ≡ stopped (runOf limit «eop_at» (now (device .entry)) (startOf c (now (memory .entry)) (now (room .entry)))) ⌝ }
 {

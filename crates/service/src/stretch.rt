@@ -12,9 +12,9 @@ ghost use mathlib.Core.Path.{_≡_};
 ghost use Prim.Native.Nat.{ℕ, _*_, _≤_, _<_};
 ghost use lib.ListN.{length};
 ghost use Rattle.words.specs.Choice.{when};
-ghost use Rattle.service.specs.World.{server};
+ghost use Rattle.service.specs.World.{servingChannel};
 ghost use Rattle.service.specs.Transfer.{writes, reads};
-ghost use Rattle.service.specs.States.{plain, latches};
+ghost use Rattle.service.specs.States.{statesWithoutS1, needsS1};
 ghost use Rattle.service.specs.Closed.{along, onward, entered, movedOn, statesOf, spread, reached, tripWorld};
 ghost use Rattle.service.specs.Needs.{Stocked};
 
@@ -44,15 +44,15 @@ fn entered(down: bool, address: u16, n: u64) -> u64
     (when_long(down, 255 - place, place) + n) / 256
 }
 
-fn plain(c: Controller) -> u64
-    ensures { λ r. ⌜ (r ≡ plain c) × (r ≤ 3) ⌝ }
+fn states_without_s1(c: Controller) -> u64
+    ensures { λ r. ⌜ (r ≡ statesWithoutS1 c) × (r ≤ 3) ⌝ }
 {
     when_long(c.command / 8 % 2 == 1, 2, 3)
 }
 
 // The latch asks for state S1 at an address.
-fn latches(c: Controller, address: u16) -> bool
-    ensures { λ r. ⌜ r ≡ latches c address ⌝ }
+fn needs_s1(c: Controller, address: u16) -> bool
+    ensures { λ r. ⌜ r ≡ needsS1 c address ⌝ }
 {
     (c.latch_full != 1) | (c.latch != high_byte(address))
 }
@@ -64,9 +64,9 @@ fn states_of(c: Controller, n: u64) -> u64
 {
     let i = c.serving as usize;
     let ch = c.channels[i];
-    let first = when_long(latches(c, ch.address), 1, 0);
+    let first = when_long(needs_s1(c, ch.address), 1, 0);
     let pages = entered(ch.mode / 32 % 2 == 1, ch.address, n - 1);
-    n * plain(c) + (first + pages)
+    n * states_without_s1(c) + (first + pages)
 }
 
 // The controller after n transfers.
@@ -107,7 +107,7 @@ pub(crate) fn travel(
     n: u64,
 ) -> Trip
     requires { ⌜ c .serving < 4 ⌝ }
-    requires { ⌜ Stocked (server c) (now memory) (now device) (now room) n ⌝ }
+    requires { ⌜ Stocked (servingChannel c) (now memory) (now device) (now room) n ⌝ }
     ensures { λ r. ⌜ tripWorld r (now (memory .exit)) (now (room .exit)) ≡ reached c (now (memory .entry)) (now (device .entry)) (now (room .entry)) n ⌝ }
 {
     if n == 0 {

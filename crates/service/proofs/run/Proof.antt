@@ -8,13 +8,13 @@ returns : tie.Need-returns
 returns c = rw (c .refused .ensures) (sym (run-refused _ _ _ _ _ _ _ (sym (c .before .before .run-refusal .ensures)) (c .before .if1 .taken)))
 
 copy-service-requires : tie.Need-copy-service-requires
-copy-service-requires c κs = let o = run-open (c .before .before .before .before .before .before .before .before .before .args .c) (c .before .before .before .before .before .before .before .before .before .args .memory .now) (sym (c .before .before .before .before .run-refusal .ensures) ∙ c .before .before .before .if1 .left) in (sym (c .before .before .copies .ensures) ∙ c .before .if2 .taken, o .memory)
+copy-service-requires c κs = let o = run-open (c .before .before .before .before .before .before .before .before .before .args .c) (c .before .before .before .before .before .before .before .before .before .args .memory .now) (sym (c .before .before .before .before .run-refusal .ensures) ∙ c .before .before .before .if1 .left) in (sym (c .before .before .memory-to-memory .ensures) ∙ c .before .if2 .taken, o .memory)
 
 returns-2 : tie.Need-returns-2
 returns-2 c = c .before .before .copy-service .ensures _ _ ∙ sym (run-accepted _ _ _ _ _ _ (sym (c .before .before .before .before .before .before .before .run-refusal .ensures) ∙ c .before .before .before .before .before .before .if1 .left))
 
 device-service-requires : tie.Need-device-service-requires
-device-service-requires c κs = (sym (c .before .before .before .copies .ensures) ∙ c .before .before .if2 .left, run-open _ _ (sym (c .before .before .before .before .before .run-refusal .ensures) ∙ c .before .before .before .before .if1 .left))
+device-service-requires c κs = (sym (c .before .before .before .memory-to-memory .ensures) ∙ c .before .before .if2 .left, run-open _ _ (sym (c .before .before .before .before .before .run-refusal .ensures) ∙ c .before .before .before .before .if1 .left))
 
 returns-3 : tie.Need-returns-3
 returns-3 c = c .before .before .before .before .device-service .ensures ∙ sym (run-accepted _ _ _ _ _ _ (sym (c .before .before .before .before .before .before .before .before .before .before .run-refusal .ensures) ∙ c .before .before .before .before .before .before .before .before .before .if1 .left))

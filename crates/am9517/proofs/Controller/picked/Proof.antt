@@ -6,7 +6,7 @@ use Rattle.am9517.proofs.Controller.picked.Tie as tie
 
 returns : tie.Need-returns
 unfolding picked first
-returns c = simp (c .when4 .ensures, c .before .before .when3 .ensures, c .before .before .before .before .when2 .ensures, c .before .before .before .before .before .before .when .ensures, c .before .before .before .before .before .before .before .entitled .ensures, c .before .before .before .before .before .entitled2 .ensures, c .before .before .before .entitled3 .ensures, c .before .entitled4 .ensures, c .before .before .before .before .before .before .before .before .before .before .before .turn .ensures, c .before .before .before .before .before .before .before .before .before .before .turn2 .ensures, c .before .before .before .before .before .before .before .before .before .turn3 .ensures, c .before .before .before .before .before .before .before .before .turn4 .ensures)
+returns c = simp (c .when4 .ensures, c .before .before .when3 .ensures, c .before .before .before .before .when2 .ensures, c .before .before .before .before .before .before .when .ensures, c .before .before .before .before .before .before .before .entitled .ensures, c .before .before .before .before .before .entitled2 .ensures, c .before .before .before .entitled3 .ensures, c .before .entitled4 .ensures, c .before .before .before .before .before .before .before .before .before .before .before .asked .ensures, c .before .before .before .before .before .before .before .before .before .before .asked2 .ensures, c .before .before .before .before .before .before .before .before .before .asked3 .ensures, c .before .before .before .before .before .before .before .before .asked4 .ensures)
 
 pub picked-spec : {M : Type 1} → statement M
 picked-spec =

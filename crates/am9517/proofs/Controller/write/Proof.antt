@@ -12,7 +12,7 @@ returns c = simp (c .refused .ensures, sym (c .before .before .write-refusal .en
 
 returns-2 : tie.Need-returns-2
 unfolding outcome when
-returns-2 c = simp (sym (c .before .before .write-refusal .ensures), eq-eqb _ _ (c .before .if1 .left), c .written .ensures)
+returns-2 c = simp (sym (c .before .before .write-refusal .ensures), eq-eqb _ _ (c .before .if1 .left), c .after-write .ensures)
 
 pub write-spec : {M : Type 1} → statement M
 write-spec =

@@ -11,10 +11,10 @@ load-straight-requires : tie.Need-load-straight-requires
 load-straight-requires c κs = let p = pieces _ _ _ _ _ (c .before .before .before .before .before .pre .0) (c .before .before .before .before .before .pre .1) (c .before .before .reach .ensures) (c .before .lesser .ensures) in (p .front, c .before .before .before .before .before .pre .2, omega (arith, p .most, c .before .before .before .before .before .pre .3))
 
 load-straight-requires-2 : tie.Need-load-straight-requires-2
-load-straight-requires-2 c κs = let p = pieces _ _ _ _ _ (c .before .before .before .before .before .before .before .before .before .before .before .pre .0) (c .before .before .before .before .before .before .before .before .before .before .before .pre .1) (c .before .before .before .before .before .before .before .before .reach .ensures) (c .before .before .before .before .before .before .before .lesser .ensures) in (rw (c .before .turned-to .ensures) (p .back), c .before .before .before .before .before .before .before .before .before .before .before .pre .2, omega (arith, c .before .before .before .before .before .load-straight .kept, p .most, c .before .before .before .before .before .before .before .before .before .before .before .pre .3))
+load-straight-requires-2 c κs = let p = pieces _ _ _ _ _ (c .before .before .before .before .before .before .before .before .before .before .before .pre .0) (c .before .before .before .before .before .before .before .before .before .before .before .pre .1) (c .before .before .before .before .before .before .before .before .reach .ensures) (c .before .before .before .before .before .before .before .lesser .ensures) in (rw (c .before .wrapped-to .ensures) (p .back), c .before .before .before .before .before .before .before .before .before .before .before .pre .2, omega (arith, c .before .before .before .before .before .load-straight .kept, p .most, c .before .before .before .before .before .before .before .before .before .before .before .pre .3))
 
 returns : tie.Need-returns
-returns c = let p = pieces _ _ _ _ _ (c .before .before .before .before .before .before .before .before .before .before .before .before .before .before .pre .0) (c .before .before .before .before .before .before .before .before .before .before .before .before .before .before .pre .1) (c .before .before .before .before .before .before .before .before .before .before .before .reach .ensures) (c .before .before .before .before .before .before .before .before .before .before .lesser .ensures) in spread-pieces _ _ _ _ _ _ _ _ _ _ _ _ (p .most) (c .before .before .before .before .before .before .before .before .load-straight .ensures) (rw (c .before .before .before .before .turned-to .ensures) at (c .before .before .load-straight2 .ensures)) (λ i. omega arith) (λ i. refl) (λ i. refl) (p .next (c .before .before .before .before .before .if1 .taken))
+returns c = let p = pieces _ _ _ _ _ (c .before .before .before .before .before .before .before .before .before .before .before .before .before .before .pre .0) (c .before .before .before .before .before .before .before .before .before .before .before .before .before .before .pre .1) (c .before .before .before .before .before .before .before .before .before .before .before .reach .ensures) (c .before .before .before .before .before .before .before .before .before .before .lesser .ensures) in spread-pieces _ _ _ _ _ _ _ _ _ _ _ _ (p .most) (c .before .before .before .before .before .before .before .before .load-straight .ensures) (rw (c .before .before .before .before .wrapped-to .ensures) at (c .before .before .load-straight2 .ensures)) (λ i. omega arith) (λ i. refl) (λ i. refl) (p .next (c .before .before .before .before .before .if1 .taken))
 
 returns-2 : tie.Need-returns-2
 returns-2 c = let p = pieces _ _ _ _ _ (c .before .before .before .before .before .before .before .before .before .pre .0) (c .before .before .before .before .before .before .before .before .before .pre .1) (c .before .before .before .before .before .before .reach .ensures) (c .before .before .before .before .before .lesser .ensures) in let e : c .before .before .before .before .before .lesser .result ≡ c .before .before .before .before .before .before .before .before .before .args .n = omega (arith, p .most) in c .before .before .before .load-straight .ensures ∙ spread-same _ _ _ _ _ _ _ (λ i h. omega arith) (λ i h. refl) ∙ ap (spread _ _ _ _) e
