@@ -1,6 +1,6 @@
 -- Addresses: a stretch before they turn over, where they go on, and the pages that they enter.
 -- Assumes nothing.
-use Prim.Native.Nat.{ℕ, _+_, _-_, _*_, _/_, _%_, _≤_, _<_}
+use Prim.Native.Nat.{ℕ, _+_, _-_, _*_, _/_, _%_, _^_, _≤_, _<_}
 use mathlib.Core.Path.{_≡_, refl, sym, ap, _∙_}
 use mathlib.Core.Bool.{Bool, true, false, not}
 use native.Mathlib.Omega.{arith}
@@ -8,9 +8,9 @@ use lib.Dec.{eqb}
 use borrow.Author.Tests.{eq-eqb, ne-eqb, eqb-true, eqb-false}
 use Rattle.words.specs.Choice.{when}
 use Rattle.words.specs.Steps.{step, steps, stride}
-use Rattle.service.specs.Closed.{reachOf, wrappedTo, entered}
-use Rattle.service.specs.Needs.{Straight}
-use Rattle.words.proofs.ChoiceLaws.{never, when-hit, when-miss}
+use Rattle.service.specs.Closed.{placeOf, reachOf, wrappedTo, entered}
+use Rattle.service.specs.Needs.{Within}
+use Rattle.words.proofs.ChoiceLaws.{never, when-each, when-hit, when-miss}
 use Rattle.words.proofs.StepLaws.{steps-on, steps-next, steps-none, steps-below}
 
 pub straight-up : (a j : ℕ) → a + j < 65536 → steps 16 false a j ≡ a + j
@@ -21,19 +21,37 @@ pub straight-down : (a j : ℕ) → j ≤ a → a < 65536 → steps 16 true a j 
 unfolding steps stride when
 straight-down a j h l = omega arith
 
--- what lies within reach is straight
-pub reach-straight : (down : Bool) (a n : ℕ) → a < 65536 → n ≤ reachOf down a → Straight down a n
+module _ (down : Bool) (a n size : ℕ) (w : Within down a n size) (j : ℕ) (h : j < n) where
+  -- a place can be computed, and lies inside
+  pub within-computed : size < 2 ^ 64 → (down ≡ true → j ≤ a) × (down ≡ false → a + j < 2 ^ 64)
+  within-computed l = (λ e. omega (arith, w .back e), λ e. omega (arith, w .up e))
+
+  pub within-inside : placeOf down a j < size
+  unfolding placeOf
+  within-inside = when-each (λ (x : ℕ). x < size) down (λ e. omega (arith, w .back e)) (λ e. omega (arith, w .up e))
+
+-- what lies within reach doesn't turn over
+pub reach-within : (down : Bool) (a n : ℕ) → a < 65536 → n ≤ reachOf down a → Within down a n 65536
 unfolding reachOf when
-reach-straight true a n h l = record { inside = h; up = λ e. never e; back = λ e. l }
-reach-straight false a n h l = record { inside = h; up = λ e. omega arith; back = λ e. never (sym e) }
+reach-within true a n h l = record { up = λ e. never e; back = λ e. (h, l) }
+reach-within false a n h l = record { up = λ e. omega arith; back = λ e. never (sym e) }
 
--- the places of a straight stretch are the addresses stepped to
-module _ (down : Bool) (a n : ℕ) (s : Straight down a n) (j : ℕ) (h : j < n) where
-  pub straight-on : down ≡ false → a + j ≡ steps 16 down a j
-  straight-on e = rw e (sym (straight-up a j (omega (arith, s .up e))))
+-- the places are then the addresses stepped to
+pub placed : (down : Bool) (a n : ℕ) → Within down a n 65536 → (j : ℕ) → j < n → placeOf down a j ≡ steps 16 down a j
+unfolding placeOf when
+placed true a n w j h = let b = w .back refl in sym (straight-down a j (omega (arith, b .1)) (b .0))
+placed false a n w j h = sym (straight-up a j (omega (arith, w .up refl)))
 
-  pub straight-back : down ≡ true → a - j ≡ steps 16 down a j
-  straight-back e = rw e (sym (straight-down a j (omega (arith, s .back e)) (s .inside)))
+-- the first n places of a slice
+pub within-front : (start n size : ℕ) → start + n ≤ size → Within false start n size
+within-front start n size h = record { up = λ e. h; back = λ e. never (sym e) }
+
+pub front-is : (start j : ℕ) → placeOf false start j ≡ start + j
+unfolding placeOf when
+front-is start j = refl
+
+pub front-first : (j : ℕ) → placeOf false 0 j ≡ j
+front-first j = front-is 0 j ∙ omega arith
 
 -- behind its reach an address goes on from the other end
 turned : (down : Bool) (a : ℕ) → a < 65536 → steps 16 down a (reachOf down a) ≡ wrappedTo down
@@ -44,10 +62,10 @@ turned false a h = omega arith
 pub turned-on : (down : Bool) (a i : ℕ) → a < 65536 → steps 16 down (wrappedTo down) i ≡ steps 16 down a (reachOf down a + i)
 turned-on down a i h = ap (λ (x : ℕ). steps 16 down x i) (sym (turned down a h)) ∙ steps-on 16 down a (reachOf down a) i
 
-pub turned-straight : (down : Bool) (n : ℕ) → n ≤ 65536 → Straight down (wrappedTo down) n
+pub turned-within : (down : Bool) (n : ℕ) → n ≤ 65536 → Within down (wrappedTo down) n 65536
 unfolding wrappedTo when
-turned-straight true n h = record { inside = omega arith; up = λ e. never e; back = λ e. omega arith }
-turned-straight false n h = record { inside = omega arith; up = λ e. omega arith; back = λ e. never (sym e) }
+turned-within true n h = record { up = λ e. never e; back = λ e. (omega arith, omega arith) }
+turned-within false n h = record { up = λ e. omega arith; back = λ e. never (sym e) }
 
 -- S1: the page of the next address is another one, exactly where the steps from a enter a page.
 -- the test of the latch, for an address y and the one after it

@@ -38,6 +38,9 @@ least-both : (P : ℕ → Type 0) (a b : ℕ) → P a → P b → P (least a b)
 unfolding least
 least-both P a b h g = when-both P (ltb a b) h g
 
+pub least-some : (a b : ℕ) → 0 < a → 0 < b → 0 < least a b
+least-some a b h g = least-both (λ (x : ℕ). 0 < x) a b h g
+
 -- it is one of the two
 least-either : (a b : ℕ) → (least a b ≡ a → ⊥) → (least a b ≡ b → ⊥) → ⊥
 least-either a b h g = least-both (λ (x : ℕ). (x ≡ a → ⊥) → (x ≡ b → ⊥) → ⊥) a b (λ p q. p refl) (λ p q. q refl) h g

@@ -2,14 +2,13 @@
 -- Assumes nothing.
 use Prim.Native.Nat.{ℕ, _+_, _-_, _≤_, _<_}
 use mathlib.Core.Path.{_≡_, refl, sym, ap, _∙_}
-use mathlib.Core.Bool.{Bool, true, false, not, _&&_, _||_}
+use mathlib.Core.Bool.{Bool, true, false, _&&_, _||_}
 use mathlib.Core.List.{List}
 use native.Mathlib.Omega.{arith}
 use lib.Dec.{eqb, leb}
 use lib.ListN.{length}
 use borrow.Author.Tests.{eq-eqb, ne-eqb, eqb-true, lt-leb, le-leb, leb-true, leb-false}
 use Rattle.words.specs.Choice.{when}
-use Rattle.words.specs.Grounds.{first}
 use Rattle.am9517.specs.State.{channel, ended}
 use Rattle.am9517.specs.Modes.{serviceOf}
 use Rattle.am9517.specs.declared.Channel.{Channel}
@@ -19,7 +18,7 @@ use Rattle.service.specs.declared.Reason.the-variants.{Ended, Dropped, C
 use Rattle.service.specs.World.{World, startOf, withController, memoryToMemory, servingChannel, stop}
 use Rattle.service.specs.Stops.{dropped, short, stops}
 use Rattle.service.specs.Transfer.{writes, reads}
-use Rattle.service.specs.Ends.{runner, reachesTc, finished, afterTcOrEop, single, ends}
+use Rattle.service.specs.Ends.{runner, reachesTc, finished, afterTcOrEop, single}
 use Rattle.service.specs.Run.{runOf}
 use Rattle.service.specs.Closed.{least, untilEnd, stockOf, reached, travelled, closing}
 use Rattle.words.proofs.ChoiceLaws.{when-both, when-each}

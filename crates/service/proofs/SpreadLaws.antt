@@ -45,15 +45,15 @@ spread-on to from src dst j (suc k) =
 -- bytes put in two pieces
 pub spread-pieces : (to from to₁ from₁ to₂ from₂ : ℕ → ℕ) (src dst one two : List ℕ) (j n : ℕ) → j ≤ n
     → one ≡ spread to₁ from₁ src dst j → two ≡ spread to₂ from₂ src one (n - j)
-    → ((i : ℕ) → to₁ i ≡ to i) → ((i : ℕ) → from₁ i ≡ from i)
-    → ((i : ℕ) → to₂ i ≡ to (j + i)) → ((i : ℕ) → from₂ i ≡ from (j + i))
+    → ((i : ℕ) → i < j → to₁ i ≡ to i) → ((i : ℕ) → i < j → from₁ i ≡ from i)
+    → ((i : ℕ) → i < n - j → to₂ i ≡ to (j + i)) → ((i : ℕ) → i < n - j → from₂ i ≡ from (j + i))
     → two ≡ spread to from src dst n
 spread-pieces to from to₁ from₁ to₂ from₂ src dst one two j n h e₁ e₂ t₁ f₁ t₂ f₂ =
     let sum : j + (n - j) ≡ n = omega arith in
-    let front : one ≡ spread to from src dst j = e₁ ∙ spread-same to₁ from₁ to from src dst j (λ i l. t₁ i) (λ i l. f₁ i) in
+    let front : one ≡ spread to from src dst j = e₁ ∙ spread-same to₁ from₁ to from src dst j t₁ f₁ in
     e₂
     ∙ ap (λ (l : List ℕ). spread to₂ from₂ src l (n - j)) front
-    ∙ spread-same to₂ from₂ (λ (i : ℕ). to (j + i)) (λ (i : ℕ). from (j + i)) src (spread to from src dst j) (n - j) (λ i l. t₂ i) (λ i l. f₂ i)
+    ∙ spread-same to₂ from₂ (λ (i : ℕ). to (j + i)) (λ (i : ℕ). from (j + i)) src (spread to from src dst j) (n - j) t₂ f₂
     ∙ spread-on to from src dst j (n - j)
     ∙ ap (spread to from src dst) sum
 
@@ -82,6 +82,13 @@ carried-same to from to' from' m zero ht hf = refl
 carried-same to from to' from' m (suc n) ht hf =
     rw (carried-same to from to' from' m n (λ j h. ht j (omega arith)) (λ j h. hf j (omega arith)), ht n (omega arith), hf n (omega arith))
 
+pub carried-on : (to from : ℕ → ℕ) (m : List ℕ) (j k : ℕ) → carried (λ (i : ℕ). to (j + i)) (λ (i : ℕ). from (j + i)) (carried to from m j) k ≡ carried to from m (j + k)
+unfolding carried
+carried-on to from m j zero = let e : j ≡ j + 0 = omega arith in ap (carried to from m) e
+carried-on to from m j (suc k) =
+    let e : suc (j + k) ≡ j + suc k = omega arith in
+    ap (λ (l : List ℕ). set l (to (j + k)) (getD l (from (j + k)) 0)) (carried-on to from m j k) ∙ ap (carried to from m) e
+
 -- A copying loop after j of n bytes, and that it ends as it should.
 pub record Copying (to from : ℕ → ℕ) (src dst₀ : List ℕ) (n : ℕ) (dst : List ℕ) (j : ℕ) : Type 0 where
   pub is : dst ≡ spread to from src dst₀ j
@@ -93,9 +100,9 @@ module _ (to from : ℕ → ℕ) (src dst₀ : List ℕ) (n : ℕ) where
   unfolding spread
   copying-start = record { is = refl; most = omega arith; size = refl }
 
-  pub copying-on : (dst : List ℕ) (j : ℕ) → j < n → Copying to from src dst₀ n dst j → Copying to from src dst₀ n (set dst (to j) (getD src (from j) 0)) (j + 1)
-  copying-on dst j h g =
-      record { is = spread-more to from src dst₀ j (to j) (from j) refl refl dst (g .is); most = omega arith; size = simp length-set (g .size) }
+  pub copying-on : (dst : List ℕ) (j a b : ℕ) → a ≡ to j → b ≡ from j → j < n → Copying to from src dst₀ n dst j → Copying to from src dst₀ n (set dst a (getD src b 0)) (j + 1)
+  copying-on dst j a b ea eb h g =
+      record { is = spread-more to from src dst₀ j a b (sym ea) (sym eb) dst (g .is); most = omega arith; size = simp length-set (g .size) }
 
   pub copying-end : (dst : List ℕ) (j : ℕ) → n ≤ j → Copying to from src dst₀ n dst j → dst ≡ spread to from src dst₀ n
   copying-end dst j h g = let e : j ≡ n = omega (arith, g .most) in g .is ∙ ap (spread to from src dst₀) e
@@ -110,9 +117,9 @@ module _ (to from : ℕ → ℕ) (m₀ : List ℕ) (n : ℕ) where
   unfolding carried
   carrying-start = record { is = refl; most = omega arith; size = refl }
 
-  pub carrying-on : (m : List ℕ) (j a b : ℕ) → to j ≡ a → from j ≡ b → j < n → Carrying to from m₀ n m j → Carrying to from m₀ n (set m a (getD m b 0)) (j + 1)
+  pub carrying-on : (m : List ℕ) (j a b : ℕ) → a ≡ to j → b ≡ from j → j < n → Carrying to from m₀ n m j → Carrying to from m₀ n (set m a (getD m b 0)) (j + 1)
   carrying-on m j a b ea eb h g =
-      record { is = carried-more to from m₀ j a b ea eb m (g .is); most = omega arith; size = simp length-set (g .size) }
+      record { is = carried-more to from m₀ j a b (sym ea) (sym eb) m (g .is); most = omega arith; size = simp length-set (g .size) }
 
   pub carrying-end : (m : List ℕ) (j : ℕ) → n ≤ j → Carrying to from m₀ n m j → m ≡ carried to from m₀ n
   carrying-end m j h g = let e : j ≡ n = omega (arith, g .most) in g .is ∙ ap (carried to from m₀) e

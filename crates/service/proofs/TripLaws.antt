@@ -9,7 +9,6 @@ use lib.Dec.{eqb, leb}
 use lib.ListN.{length, getD}
 use Rattle.words.specs.Choice.{when}
 use Rattle.words.specs.Bits.{withBit}
-use Rattle.words.specs.Steps.{steps}
 use Rattle.am9517.specs.State.{channel, put, Request}
 use Rattle.am9517.specs.Modes.{decrement, serviceOf}
 use Rattle.am9517.specs.declared.Controller.{Controller}
@@ -22,13 +21,11 @@ use Rattle.service.specs.Ends.{finished}
 use Rattle.service.specs.Run.{runOf}
 use Rattle.service.specs.Needs.{Stocked}
 use Rattle.service.specs.Transfer.{writes, reads}
-use Rattle.service.specs.Closed.{least, untilEnd, stockOf, along, movedOn, statesOf, spread, travelled, reached, sourceAlong, carried, copiedOn, copiedBytes, copiedAll, routeOf, carriedBy, reachedCopying, tripWorld, withTrip, closing}
-use Rattle.words.proofs.ChoiceLaws.{when-hit, when-miss}
+use Rattle.service.specs.Closed.{least, untilEnd, stockOf, along, movedOn, statesOf, spread, travelled, reached, sourceAlong, copiedOn, copiedBytes, copiedAll, routeOf, carriedBy, reachedCopying, tripWorld, withTrip, closing}
 use Rattle.words.proofs.StepLaws.{steps-below}
 use Rattle.service.proofs.BoundLaws.{stocked, until-most}
 use Rattle.service.proofs.ServiceLaws.{serving-after, run-ends, run-halts}
-use Rattle.service.proofs.SpreadLaws.{carried-last, carried-same}
-use Rattle.service.proofs.AddressLaws.{straight-up}
+use Rattle.service.proofs.SpreadLaws.{carried-last}
 use Rattle.service.proofs.TravelLaws.{reached-some}
 use Rattle.service.proofs.CopyLaws.{copying-some, copy-ends, copy-halts}
 
@@ -97,19 +94,6 @@ module _ (c : Controller) (ready : Ready c) (m d r : List ℕ) (limit eop stock 
 pub route-bytes : (c : Controller) (ρ : Route) (m : List ℕ) (n : ℕ) → ρ ≡ routeOf c → carriedBy ρ m n ≡ copiedBytes c m n
 unfolding carriedBy along sourceAlong
 route-bytes c ρ m n e = rw e
-
-module _ (ρ : Route) (m : List ℕ) (n : ℕ) (up : ρ .«to_down» ≡ false) (fits : ρ .to + n ≤ 65536) where
-  target-up : (j : ℕ) → j < n → ρ .to + j ≡ steps 16 (ρ .«to_down») (ρ .to) j
-  target-up j h = rw up (sym (straight-up (ρ .to) j (omega arith)))
-
-  pub bytes-held : ρ .hold ≡ true → (l : List ℕ) → l ≡ carried (λ (j : ℕ). ρ .to + j) (λ (j : ℕ). ρ .from) m n → l ≡ carriedBy ρ m n
-  unfolding carriedBy
-  bytes-held hold l e = e ∙ carried-same _ _ _ _ m n target-up (λ j h. sym (when-hit _ _ _ hold))
-
-  pub bytes-up : ρ .hold ≡ false → ρ .«from_down» ≡ false → ρ .from + n ≤ 65536 → (l : List ℕ) → l ≡ carried (λ (j : ℕ). ρ .to + j) (λ (j : ℕ). ρ .from + j) m n → l ≡ carriedBy ρ m n
-  unfolding carriedBy
-  bytes-up hold up0 fits0 l e =
-      e ∙ carried-same _ _ _ _ m n target-up (λ j h. sym (when-miss _ _ _ hold ∙ rw up0 (straight-up (ρ .from) j (omega arith))))
 
 -- A memory-to-memory service, whose route was taken out.
 pub record Copying (c : Controller) (ρ : Route) : Type 0 where

@@ -36,6 +36,10 @@ along ch j = steps 16 (decrement (ch .mode)) (ch .address) j
 unfoldable pub onward : Channel → ℕ → Channel
 onward ch j = withCurrent ch (along ch j) (steps 16 true (ch .count) j)
 
+-- the j-th place from a on, counted from 0, where nothing turns over
+unfoldable pub placeOf : Bool → ℕ → ℕ → ℕ
+placeOf down a j = when down (a - j) (a + j)
+
 -- how many addresses from a on there are before they turn over, and where they go on then
 unfoldable pub reachOf : Bool → ℕ → ℕ
 reachOf down a = when down (a + 1) (65536 - a)
@@ -95,6 +99,17 @@ routeOf c =
 unfoldable pub carriedBy : Route → List ℕ → ℕ → List ℕ
 carriedBy ρ m n =
     carried (steps 16 (ρ .«to_down») (ρ .to)) (λ (j : ℕ). when (ρ .hold) (ρ .from) (steps 16 (ρ .«from_down») (ρ .from) j)) m n
+
+-- of n bytes along a route, how many are moved before an address turns over: the target's, and the source's unless it is held
+unfoldable pub straightOf : Route → ℕ → ℕ
+straightOf ρ n =
+    let target = least n (reachOf (ρ .«to_down») (ρ .to)) in
+    when (ρ .hold) target (least target (reachOf (ρ .«from_down») (ρ .from)))
+
+-- the route n bytes on
+abbrev pub farther : Route → ℕ → Route
+farther ρ n =
+    record { hold = ρ .hold; from = when (ρ .hold) (ρ .from) (steps 16 (ρ .«from_down») (ρ .from) n); «from_down» = ρ .«from_down»; to = steps 16 (ρ .«to_down») (ρ .to) n; «to_down» = ρ .«to_down»; count = ρ .count }
 
 -- the controller after j transfers of memory-to-memory, the last of this byte
 abbrev pub copiedOn : Controller → ℕ → ℕ → Controller

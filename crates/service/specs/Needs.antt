@@ -6,6 +6,7 @@ use mathlib.Core.List.{List}
 use lib.ListN.{length}
 use Rattle.am9517.specs.declared.Channel.{Channel}
 use Rattle.am9517.specs.declared.Controller.{Controller}
+use Rattle.service.specs.declared.copying.Route.{Route}
 use Rattle.service.specs.World.{memoryToMemory, servingChannel}
 use Rattle.service.specs.Transfer.{writes, reads}
 
@@ -21,8 +22,12 @@ pub record Stocked (ch : Channel) (m d r : List ℕ) (n : ℕ) : Type 0 where
   pub bytes : writes ch ≡ true → n ≤ length d
   pub space : reads ch ≡ true → n ≤ length r
 
--- n places of a memory from `start` on, in one direction, without turning over
-pub record Straight (down : Bool) (start n : ℕ) : Type 0 where
-  pub inside : start < 65536
-  pub up : down ≡ false → start + n ≤ 65536
-  pub back : down ≡ true → n ≤ start + 1
+-- n places from `start` on, in one direction, inside a slice of this size
+pub record Within (down : Bool) (start n size : ℕ) : Type 0 where
+  pub up : down ≡ false → start + n ≤ size
+  pub back : down ≡ true → (start < size) × (n ≤ start + 1)
+
+-- no address of n bytes along a route turns over
+pub record Straight (ρ : Route) (n : ℕ) : Type 0 where
+  pub target : Within (ρ .«to_down») (ρ .to) n 65536
+  pub source : ρ .hold ≡ false → Within (ρ .«from_down») (ρ .from) n 65536

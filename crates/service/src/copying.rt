@@ -3,14 +3,17 @@ use crate::Ran;
 use crate::Reason;
 use crate::Trip;
 use crate::answered;
+use crate::bounds::lesser;
 use crate::bounds::until_end;
 use crate::ends::finished;
+use crate::moving::place;
+use crate::moving::reach;
 use crate::stretch::along;
 use crate::stretch::onward;
 use am9517::Controller;
 use words::bits::with_bit;
 use words::choice::when_word;
-use words::steps::step;
+use words::steps::steps;
 ghost use mathlib.Core.Path.{_≡_};
 ghost use mathlib.Core.Bool.{Bool, true, false};
 ghost use mathlib.Core.List.{List};
@@ -25,7 +28,8 @@ ghost use Rattle.service.specs.Ends.{finished};
 ghost use Rattle.service.specs.World.{memoryToMemory, startOf};
 ghost use Rattle.service.specs.Run.{runOf};
 ghost use Rattle.service.specs.Answers.{given, stopped};
-ghost use Rattle.service.specs.Closed.{withTrip, carried, sourceAlong, copiedOn, routeOf, carriedBy, reachedCopying, tripWorld};
+ghost use Rattle.service.specs.Closed.{withTrip, carried, placeOf, straightOf, farther, sourceAlong, copiedOn, routeOf, carriedBy, reachedCopying, tripWorld};
+ghost use Rattle.service.specs.Needs.{Within, Straight};
 
 // Where the bytes of memory-to-memory come from and go to, and channel 1's count.
 pub struct Route {
@@ -37,61 +41,71 @@ pub struct Route {
     pub count: u16,
 }
 
-// Each of n bytes moved by itself, the addresses stepping as they are told.
-fn carry_each(memory: &mut [u8], route: Route, n: u64)
-    requires { ⌜ length (now memory) ≡ 65536 ⌝ }
-    ensures { λ _. ⌜ now (memory .exit) ≡ carriedBy route (now (memory .entry)) n ⌝ }
-{
-    let hold = route.hold;
-    let from_down = route.from_down;
-    let to_down = route.to_down;
-    let mut source = route.from;
-    let mut target = route.to;
-    let mut j: u64 = 0;
-    while j < n {
-        let at = source as usize;
-        let put = target as usize;
-        memory[put] = memory[at];
-        source = when_word(hold, source, step(source, from_down));
-        target = step(target, to_down);
-        j += 1;
-    }
-}
-
-// n bytes upward, before either address turns over.
-fn carry_up(memory: &mut [u8], from: usize, to: usize, n: usize)
-    requires { ⌜ (from + n ≤ length (now memory)) × (to + n ≤ length (now memory)) ⌝ }
-    ensures { λ _. ⌜ now (memory .exit) ≡ carried (λ (j : ℕ). to + j) (λ (j : ℕ). from + j) (now (memory .entry)) n ⌝ }
+// n bytes from `from` on to `to` on, each read when it is moved. One loop for both directions of both.
+fn carry(memory: &mut [u8], from: usize, from_down: bool, to: usize, to_down: bool, n: usize)
+    requires { ⌜ Within «from_down» from n (length (now memory)) × Within «to_down» to n (length (now memory)) ⌝ }
+    ensures { λ _. ⌜ now (memory .exit) ≡ carried (placeOf «to_down» to) (placeOf «from_down» from) (now (memory .entry)) n ⌝ }
 {
     let mut j: usize = 0;
     while j < n {
-        memory[to + j] = memory[from + j];
+        let source = place(from_down, from, j);
+        let target = place(to_down, to, j);
+        memory[target] = memory[source];
         j += 1;
     }
 }
 
-// One held byte put n times upward.
-fn fill_up(memory: &mut [u8], from: usize, to: usize, n: usize)
-    requires { ⌜ (from < length (now memory)) × (to + n ≤ length (now memory)) ⌝ }
-    ensures { λ _. ⌜ now (memory .exit) ≡ carried (λ (j : ℕ). to + j) (λ (j : ℕ). from) (now (memory .entry)) n ⌝ }
+// One held byte put n times.
+fn fill(memory: &mut [u8], from: usize, to: usize, to_down: bool, n: usize)
+    requires { ⌜ (from < length (now memory)) × Within «to_down» to n (length (now memory)) ⌝ }
+    ensures { λ _. ⌜ now (memory .exit) ≡ carried (placeOf «to_down» to) (λ (j : ℕ). from) (now (memory .entry)) n ⌝ }
 {
     let byte = memory[from];
     let mut j: usize = 0;
     while j < n {
-        memory[to + j] = byte;
+        let target = place(to_down, to, j);
+        memory[target] = byte;
         j += 1;
     }
 }
 
-// n addresses from an address on go up and don't turn over.
-fn straight_up(down: bool, address: u16, n: u64) -> bool
-    requires { ⌜ n ≤ 65536 ⌝ }
-    ensures { λ r. ⌜ (r ≡ true → (down ≡ false) × (address + n ≤ 65536)) ⌝ }
+// How many of n bytes can be moved before an address turns over: the target's, and the source's unless it is held.
+fn straight(route: Route, n: usize) -> usize
+    ensures { λ r. ⌜ r ≡ straightOf route n ⌝ }
 {
-    if down {
-        return false;
+    let target = lesser(n, reach(route.to_down, route.to as usize));
+    if route.hold {
+        return target;
     }
-    address as u64 + n <= 65536
+    lesser(target, reach(route.from_down, route.from as usize))
+}
+
+// The first n bytes of a route, where no address turns over.
+fn carry_straight(memory: &mut [u8], route: Route, n: usize)
+    requires { ⌜ (length (now memory) ≡ 65536) × Straight route n ⌝ }
+    ensures { λ _. ⌜ now (memory .exit) ≡ carriedBy route (now (memory .entry)) n ⌝ }
+{
+    let from = route.from as usize;
+    let to = route.to as usize;
+    if route.hold {
+        fill(memory, from, to, route.to_down, n);
+    } else {
+        carry(memory, from, route.from_down, to, route.to_down, n);
+    }
+}
+
+// The route n bytes on.
+fn farther(route: Route, n: u64) -> Route
+    ensures { λ r. ⌜ r ≡ farther route n ⌝ }
+{
+    let mut next = route;
+    next.from = when_word(
+        route.hold,
+        route.from,
+        steps(route.from, route.from_down, n),
+    );
+    next.to = steps(route.to, route.to_down, n);
+    next
 }
 
 // Where the bytes come from and go to.
@@ -110,22 +124,19 @@ fn route_of(c: Controller) -> Route
     }
 }
 
-// The bytes of n transfers.
+// The bytes of n transfers, piece by piece.
 fn copy_bytes(route: Route, memory: &mut [u8], n: u64)
     requires { ⌜ (length (now memory) ≡ 65536) × (n ≤ 65536) ⌝ }
     ensures { λ _. ⌜ now (memory .exit) ≡ carriedBy route (now (memory .entry)) n ⌝ }
 {
-    if straight_up(route.to_down, route.to, n) {
-        if route.hold {
-            fill_up(memory, route.from as usize, route.to as usize, n as usize);
-            return;
-        }
-        if straight_up(route.from_down, route.from, n) {
-            carry_up(memory, route.from as usize, route.to as usize, n as usize);
-            return;
-        }
+    let mut here = route;
+    let mut left = n as usize;
+    while 0 < left {
+        let piece = straight(here, left);
+        carry_straight(memory, here, piece);
+        here = farther(here, piece as u64);
+        left -= piece;
     }
-    carry_each(memory, route, n);
 }
 
 // Channel 0's address after n transfers.

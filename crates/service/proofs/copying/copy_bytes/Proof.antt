@@ -1,40 +1,56 @@
-use native.Mathlib.Omega.{arith}
+use Rattle.service.proofs.PieceLaws.{moving-piece}
+use Rattle.service.proofs.PieceLaws.{Moving, moving-on, moving-end}
 use borrow.Author.Needs.{needs}
-use Rattle.service.proofs.TripLaws.{bytes-held, bytes-up}
+use native.Mathlib.Omega.{arith}
+use mathlib.Core.Path.{refl}
 use Rattle.service.proofs.copying.copy_bytes.Statement.{statement}
 use Rattle.service.proofs.copying.copy_bytes.Tie as tie
 
-fill-up-requires : tie.Need-fill-up-requires
-fill-up-requires c κs = let u = c .before .before .before .before .before .straight-up .ensures (c .before .before .before .before .if1 .taken) in (omega (arith, c .before .before .before .before .before .before .before .pre .0, c .before .struct-known .given), omega (arith, u .1, c .before .before .before .before .before .before .before .pre .0))
+abbrev Inv-loop : tie.InvT-loop
+Inv-loop memory₀ n here₀ left₀ memory here left = Moving here₀ memory₀ n here memory left
 
-returns : tie.Need-returns
-returns c = let u = c .before .before .before .before .before .before .before .before .straight-up .ensures (c .before .before .before .before .before .before .before .if1 .taken) in bytes-held (c .before .before .before .before .before .before .before .before .before .before .args .route) _ _ (u .0) (u .1) (c .before .before .before .before .before .before .if2 .taken) _ (c .before .before .fill-up .ensures)
+abbrev μ-loop : tie.MeasureT-loop
+μ-loop memory₀ n here₀ left₀ memory here left = left
 
-carry-up-requires : tie.Need-carry-up-requires
-carry-up-requires c κs = let u = c .before .before .before .before .before .before .before .straight-up .ensures (c .before .before .before .before .before .before .if1 .taken) in let v = c .before .before .before .before .straight-up2 .ensures (c .before .before .before .if3 .taken) in (omega (arith, v .1, c .before .before .before .before .before .before .before .before .before .pre .0), omega (arith, u .1, c .before .before .before .before .before .before .before .before .before .pre .0))
+loop-holds : tie.Need-loop-holds Inv-loop μ-loop
+loop-holds c = record { same = refl; size = c .before .pre .0; source = omega (arith, c .before .good); target = omega (arith, c .before .good) }
 
-returns-2 : tie.Need-returns-2
-returns-2 c = let u = c .before .before .before .before .before .before .before .before .before .before .straight-up .ensures (c .before .before .before .before .before .before .before .before .before .if1 .taken) in let v = c .before .before .before .before .before .before .before .straight-up2 .ensures (c .before .before .before .before .before .before .if3 .taken) in bytes-up (c .before .before .before .before .before .before .before .before .before .before .before .before .args .route) _ _ (u .0) (u .1) (c .before .before .before .before .before .before .before .before .if2 .left) (v .0) (v .1) _ (c .before .before .carry-up .ensures)
+straight-requires : tie.Need-straight-requires Inv-loop μ-loop
+straight-requires c κs = tt
 
-returns-3 : tie.Need-returns-3
-returns-3 c = c .before .before .carry-each .ensures
+carry-straight-requires : tie.Need-carry-straight-requires Inv-loop μ-loop
+carry-straight-requires c κs = (c .before .before .before .loop .inv .size, moving-piece _ (c .before .before .before .loop .inv) (c .before .straight .ensures) .straight)
+
+farther-requires : tie.Need-farther-requires Inv-loop μ-loop
+farther-requires c κs = search needs
+
+sub-left : tie.Need-sub-left Inv-loop μ-loop
+sub-left c = omega (arith, moving-piece _ (c .before .before .before .before .before .before .before .loop .inv) (c .before .before .before .before .before .straight .ensures) .most)
+
+loop-less : tie.Need-loop-less Inv-loop μ-loop
+loop-less c = let p = moving-piece _ (c .before .before .before .before .before .before .before .loop .inv) (c .before .before .before .before .before .straight .ensures) in omega (arith, p .most, p .some (omega arith))
+
+loop-again : tie.Need-loop-again Inv-loop μ-loop
+loop-again c = moving-on _ _ _ _ _ _ _ _ _ (c .before .before .before .before .before .before .before .loop .inv) (moving-piece _ (c .before .before .before .before .before .before .before .loop .inv) (c .before .before .before .before .before .straight .ensures) .most) (c .before .before .before .carry-straight .ensures) (c .farther .ensures)
+
+same-length : tie.Need-same-length Inv-loop μ-loop
+same-length c = omega (arith, c .before .loop .inv .size, c .before .before .before .pre .0)
+
+returns : tie.Need-returns Inv-loop μ-loop
+returns c = moving-end _ _ _ _ _ _ (c .before .loop .inv) (omega arith)
 
 pub copy-bytes-spec : {M : Type 1} → statement M
 copy-bytes-spec =
     tie.close
     (tie.spec
-    (search needs)
-    (search needs)
-    (search needs)
-    fill-up-requires
-    (search needs)
-    returns
-    (search needs)
-    (search needs)
-    (search needs)
-    carry-up-requires
-    (search needs)
-    returns-2
-    (search needs)
-    (search needs)
-    returns-3)
+    Inv-loop
+    μ-loop
+    loop-holds
+    straight-requires
+    carry-straight-requires
+    farther-requires
+    sub-left
+    loop-less
+    loop-again
+    same-length
+    returns)

@@ -1,35 +1,54 @@
-use mathlib.Core.Path.{_≡_, refl, ap, _∙_}
-use native.Mathlib.Omega.{arith}
-use borrow.Author.Needs.{needs}
-use Rattle.service.specs.Closed.{spread}
-use Rattle.service.proofs.PieceLaws.{pieces}
 use Rattle.service.proofs.SpreadLaws.{spread-same, spread-pieces}
+use Rattle.service.proofs.PieceLaws.{pieces}
+use Rattle.service.proofs.AddressLaws.{placed, within-front, front-is, front-first}
+use Rattle.service.specs.Closed.{spread}
+use native.Mathlib.Omega.{arith}
+use mathlib.Core.Path.{_≡_, ap, _∙_}
+use borrow.Author.Needs.{needs}
 use Rattle.service.proofs.moving.load.Statement.{statement}
 use Rattle.service.proofs.moving.load.Tie as tie
 
-load-straight-requires : tie.Need-load-straight-requires
-load-straight-requires c κs = let p = pieces _ _ _ _ _ (c .before .before .before .before .before .pre .0) (c .before .before .before .before .before .pre .1) (c .before .before .reach .ensures) (c .before .lesser .ensures) in (p .front, c .before .before .before .before .before .pre .2, omega (arith, p .most, c .before .before .before .before .before .pre .3))
+reach-requires : tie.Need-reach-requires
+reach-requires c κs = search needs
 
-load-straight-requires-2 : tie.Need-load-straight-requires-2
-load-straight-requires-2 c κs = let p = pieces _ _ _ _ _ (c .before .before .before .before .before .before .before .before .before .before .before .pre .0) (c .before .before .before .before .before .before .before .before .before .before .before .pre .1) (c .before .before .before .before .before .before .before .before .reach .ensures) (c .before .before .before .before .before .before .before .lesser .ensures) in (rw (c .before .wrapped-to .ensures) (p .back), c .before .before .before .before .before .before .before .before .before .before .before .pre .2, omega (arith, c .before .before .before .before .before .load-straight .kept, p .most, c .before .before .before .before .before .before .before .before .before .before .before .pre .3))
+lesser-requires : tie.Need-lesser-requires
+lesser-requires c κs = search needs
+
+copy-requires : tie.Need-copy-requires
+copy-requires c κs = let p = pieces _ _ _ _ _ (c .before .before .before .before .before .pre .0) (c .before .before .before .before .before .pre .1) (c .before .before .reach .ensures) (c .before .lesser .ensures) in (within-front _ _ _ (omega (arith, p .most, c .before .before .before .before .before .pre .3)), rw (c .before .before .before .before .before .pre .2) (p .front))
+
+wrapped-to-requires : tie.Need-wrapped-to-requires
+wrapped-to-requires c κs = search needs
+
+sub-copy : tie.Need-sub-copy
+sub-copy c = search needs
+
+copy-requires-2 : tie.Need-copy-requires-2
+copy-requires-2 c κs = let p = pieces _ _ _ _ _ (c .before .before .before .before .before .before .before .before .before .before .before .pre .0) (c .before .before .before .before .before .before .before .before .before .before .before .pre .1) (c .before .before .before .before .before .before .before .before .reach .ensures) (c .before .before .before .before .before .before .before .lesser .ensures) in (within-front _ _ _ (omega (arith, c .before .before .before .before .before .copy .kept, p .most, c .before .before .before .before .before .before .before .before .before .before .before .pre .3)), rw (c .before .before .before .before .before .before .before .before .before .before .before .pre .2, c .wrapped-to .ensures) (p .back))
+
+same-length : tie.Need-same-length
+same-length c = search needs
 
 returns : tie.Need-returns
-returns c = let p = pieces _ _ _ _ _ (c .before .before .before .before .before .before .before .before .before .before .before .before .before .before .pre .0) (c .before .before .before .before .before .before .before .before .before .before .before .before .before .before .pre .1) (c .before .before .before .before .before .before .before .before .before .before .before .reach .ensures) (c .before .before .before .before .before .before .before .before .before .before .lesser .ensures) in spread-pieces _ _ _ _ _ _ _ _ _ _ _ _ (p .most) (c .before .before .before .before .before .before .before .before .load-straight .ensures) (rw (c .before .before .before .before .wrapped-to .ensures) at (c .before .before .load-straight2 .ensures)) (λ i. omega arith) (λ i. refl) (λ i. refl) (p .next (c .before .before .before .before .before .if1 .taken))
+returns c = let p = pieces _ _ _ _ _ (c .before .before .before .before .before .before .before .before .before .before .before .before .before .before .pre .0) (c .before .before .before .before .before .before .before .before .before .before .before .before .before .before .pre .1) (c .before .before .before .before .before .before .before .before .before .before .before .reach .ensures) (c .before .before .before .before .before .before .before .before .before .before .lesser .ensures) in spread-pieces _ _ _ _ _ _ _ _ _ _ _ _ (p .most) (c .before .before .before .before .before .before .before .before .copy .ensures) (rw (c .before .before .before .wrapped-to .ensures) at (c .before .before .copy2 .ensures)) (λ i h. front-first i) (placed _ _ _ (p .front)) (λ i h. front-is _ i) (p .next (c .before .before .before .before .before .if1 .taken))
+
+same-length-2 : tie.Need-same-length-2
+same-length-2 c = search needs
 
 returns-2 : tie.Need-returns-2
-returns-2 c = let p = pieces _ _ _ _ _ (c .before .before .before .before .before .before .before .before .before .pre .0) (c .before .before .before .before .before .before .before .before .before .pre .1) (c .before .before .before .before .before .before .reach .ensures) (c .before .before .before .before .before .lesser .ensures) in let e : c .before .before .before .before .before .lesser .result ≡ c .before .before .before .before .before .before .before .before .before .args .n = omega (arith, p .most) in c .before .before .before .load-straight .ensures ∙ spread-same _ _ _ _ _ _ _ (λ i h. omega arith) (λ i h. refl) ∙ ap (spread _ _ _ _) e
+returns-2 c = let p = pieces _ _ _ _ _ (c .before .before .before .before .before .before .before .before .before .pre .0) (c .before .before .before .before .before .before .before .before .before .pre .1) (c .before .before .before .before .before .before .reach .ensures) (c .before .before .before .before .before .lesser .ensures) in let e : c .before .before .before .before .before .lesser .result ≡ c .before .before .before .before .before .before .before .before .before .args .n = omega (arith, p .most) in c .before .before .before .copy .ensures ∙ spread-same _ _ _ _ _ _ _ (λ i h. front-first i) (placed _ _ _ (p .front)) ∙ ap (spread _ _ _ _) e
 
 pub load-spec : {M : Type 1} → statement M
 load-spec =
     tie.close
     (tie.spec
-    (search needs)
-    (search needs)
-    load-straight-requires
-    (search needs)
-    (search needs)
-    load-straight-requires-2
-    (search needs)
+    reach-requires
+    lesser-requires
+    copy-requires
+    wrapped-to-requires
+    sub-copy
+    copy-requires-2
+    same-length
     returns
-    (search needs)
+    same-length-2
     returns-2)
