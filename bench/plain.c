@@ -20,6 +20,10 @@ struct told {
     enum reason why;
     u64 transfers, states;
     usize used, written;
+};
+
+struct rounded {
+    struct told total;
     u32 services[4];
 };
 
@@ -175,47 +179,6 @@ struct lent {
 
 static u16 stepped(u16 address, u8 mode) { return (u16)(bit(mode, 5) ? address - 1 : address + 1); }
 
-/* The stop before a transfer, or -1. */
-static int stop_before(struct controller *c, int copies, const struct lent *l, const struct told *t, u64 limit)
-{
-    const struct channel *ch = &c->channels[c->serving];
-    int kind = ch->mode >> 6, way = ch->mode >> 2 & 3;
-    if (!copies && (kind == 0 || kind == 3) && !active(c, c->serving)) {
-        end_service(c);
-        return DROPPED;
-    }
-    if (!copies && kind == 3) return CASCADE;
-    if (t->transfers == limit) return LIMIT;
-    if (!copies && way == 1 && t->used == l->device_length) return SHORT;
-    if (!copies && way == 2 && t->written == l->room_length) return SHORT;
-    return -1;
-}
-
-static void move(struct controller *c, const struct lent *l, struct told *t)
-{
-    struct channel *ch = &c->channels[c->serving];
-    u8 page = (u8)(ch->address >> 8);
-    t->states += bit(c->command, 3) ? 2 : 3;
-    if (!c->latch_full || c->latch != page) {
-        t->states++;
-        c->latch_full = 1;
-        c->latch = page;
-    }
-    if ((ch->mode >> 2 & 3) == 1) l->memory[ch->address] = l->device[t->used++];
-    if ((ch->mode >> 2 & 3) == 2) l->room[t->written++] = l->memory[ch->address];
-    ch->address = stepped(ch->address, ch->mode);
-}
-
-static void copy(struct controller *c, const struct lent *l, struct told *t)
-{
-    struct channel *from = &c->channels[0], *to = &c->channels[1];
-    t->states += 8;
-    c->temporary = l->memory[from->address];
-    l->memory[to->address] = c->temporary;
-    if (!bit(c->command, 1)) from->address = stepped(from->address, from->mode);
-    to->address = stepped(to->address, to->mode);
-}
-
 /* TC or EOP met channel n. */
 static void finish(struct controller *c, int copies, u32 n)
 {
@@ -230,80 +193,120 @@ static void finish(struct controller *c, int copies, u32 n)
     end_service(c);
 }
 
-static void serve(struct controller *c, const struct lent *l, u64 limit, u64 eop_at, struct told *t)
+/* The count steps; whether TC or EOP ended the service. */
+static int counted_down(struct controller *c, int copies, u32 n, int eop)
 {
-    int copies = bit(c->command, 0) && c->serving == 0;
-    u32 n = copies ? 1 : c->serving;
+    int tc = c->channels[n].count-- == 0;
+    if (tc) c->tc |= (u8)(1u << n);
+    if (!tc && !eop) return 0;
+    finish(c, copies, n);
+    return 1;
+}
+
+static struct told copy_service(struct controller *c, struct lent l, u64 limit, u64 eop_at)
+{
+    struct channel *from = &c->channels[0], *to = &c->channels[1];
+    struct told t = {0};
     for (;;) {
-        int stop = stop_before(c, copies, l, t, limit);
-        if (stop >= 0) {
-            t->why = (enum reason)stop;
-            return;
+        if (t.transfers == limit) {
+            t.why = LIMIT;
+            return t;
         }
-        if (copies) copy(c, l, t);
-        else move(c, l, t);
-        t->transfers++;
-        int tc = c->channels[n].count-- == 0;
-        if (tc) c->tc |= (u8)(1u << n);
-        if (tc || t->transfers == eop_at) {
-            finish(c, copies, n);
-            t->why = ENDED;
-            return;
-        }
-        if (!copies && c->channels[n].mode >> 6 == 1) {
+        c->temporary = l.memory[from->address];
+        l.memory[to->address] = c->temporary;
+        if (!bit(c->command, 1)) from->address = stepped(from->address, from->mode);
+        to->address = stepped(to->address, to->mode);
+        t.states += 8;
+        t.transfers++;
+        if (counted_down(c, 1, 1, t.transfers == eop_at)) return t;
+    }
+}
+
+static struct told device_service(struct controller *c, struct lent l, u64 limit, u64 eop_at)
+{
+    u32 n = c->serving;
+    struct channel *ch = &c->channels[n];
+    int kind = ch->mode >> 6, way = ch->mode >> 2 & 3;
+    struct told t = {0};
+    for (;;) {
+        if ((kind == 0 || kind == 3) && !active(c, n)) {
             end_service(c);
-            t->why = ENDED;
-            return;
+            t.why = DROPPED;
+            return t;
+        }
+        if (kind == 3) t.why = CASCADE;
+        else if (t.transfers == limit) t.why = LIMIT;
+        else if ((way == 1 && t.used == l.device_length) || (way == 2 && t.written == l.room_length)) t.why = SHORT;
+        if (t.why != ENDED) return t;
+        u16 address = ch->address;
+        t.states += bit(c->command, 3) ? 2 : 3;
+        if (!c->latch_full || c->latch != address >> 8) {
+            t.states++;
+            c->latch_full = 1;
+            c->latch = (u8)(address >> 8);
+        }
+        if (way == 1) l.memory[address] = l.device[t.used++];
+        if (way == 2) l.room[t.written++] = l.memory[address];
+        ch->address = stepped(address, ch->mode);
+        t.transfers++;
+        if (counted_down(c, 0, n, t.transfers == eop_at)) return t;
+        if (kind == 1) {
+            end_service(c);
+            return t;
         }
     }
 }
 
-static struct told run(struct controller *c, const struct lent *l, u64 limit, u64 eop_at)
+static struct told serve(struct controller *c, struct lent l, u64 limit, u64 eop_at)
+{
+    if (bit(c->command, 0) && c->serving == 0) return copy_service(c, l, limit, eop_at);
+    return device_service(c, l, limit, eop_at);
+}
+
+static struct told run(struct controller *c, struct lent l, u64 limit, u64 eop_at)
 {
     struct told t = {0};
-    t.refusal = !valid(c) ? 1 : l->memory_length != 65536 ? 7 : !c->in_service ? 8 : 0;
-    if (t.refusal == 0) serve(c, l, limit, eop_at, &t);
-    return t;
+    t.refusal = !valid(c) ? 1 : l.memory_length != 65536 ? 7 : !c->in_service ? 8 : 0;
+    return t.refusal ? t : serve(c, l, limit, eop_at);
 }
 
 /* ---- a round ---- */
 
-static void add(struct told *sum, const struct told *t)
+static struct lent rest_of(struct lent l, const struct told *sum)
 {
-    sum->transfers += t->transfers;
-    sum->states += t->states;
-    sum->used += t->used;
-    sum->written += t->written;
+    l.device += sum->used;
+    l.device_length -= sum->used;
+    l.room += sum->written;
+    l.room_length -= sum->written;
+    return l;
 }
 
-static struct told round_of(struct controller *c, const struct lent *l, u32 k)
+static struct rounded round_of(struct controller *c, struct lent l, u32 k)
 {
-    struct told sum = {0};
-    sum.refusal = !valid(c) ? 1 : k > 4096 ? 2 : l->memory_length != 65536 ? 7 : c->in_service ? 3 : 0;
-    if (sum.refusal != 0) return sum;
-    for (u32 begun = 0;; begun++) {
-        int n;
-        if (begun == k) {
-            sum.why = DONE;
-            return sum;
-        }
-        n = picked(c);
+    struct rounded r = {0};
+    struct told *sum = &r.total;
+    sum->refusal = !valid(c) ? 1 : k > 4096 ? 2 : l.memory_length != 65536 ? 7 : c->in_service ? 3 : 0;
+    if (sum->refusal != 0) return r;
+    for (u32 begun = 0; begun < k; begun++) {
+        int n = picked(c);
         if (n < 0) {
-            sum.why = QUIET;
-            return sum;
+            sum->why = QUIET;
+            return r;
         }
         grant(c, n);
-        sum.services[n]++;
-        struct lent rest = {l->memory, l->memory_length, l->device + sum.used, l->device_length - sum.used,
-                            l->room + sum.written, l->room_length - sum.written};
-        struct told t = {0};
-        serve(c, &rest, 65536, 0, &t);
-        add(&sum, &t);
+        r.services[n]++;
+        struct told t = serve(c, rest_of(l, sum), 65536, 0);
+        sum->transfers += t.transfers;
+        sum->states += t.states;
+        sum->used += t.used;
+        sum->written += t.written;
         if (t.why != ENDED) {
-            sum.why = t.why;
-            return sum;
+            sum->why = t.why;
+            return r;
         }
     }
+    sum->why = DONE;
+    return r;
 }
 
 /* ---- sheets ---- */
@@ -365,8 +368,12 @@ static void write_sheet(const struct controller *c, u8 *sheet)
 static u64 mixed(const struct told *t)
 {
     u64 number = t->refusal ? t->refusal + 256 : (u64)t->why;
-    u64 begun = t->services[0] + t->services[1] * 2ul + t->services[2] * 3ul + t->services[3] * 4ul;
-    return number + begun + t->transfers * 2 + t->used * 3 + t->written * 5 + t->states * 7;
+    return number + t->transfers * 2 + t->used * 3 + t->written * 5 + t->states * 7;
+}
+
+static u64 begun(const struct rounded *r)
+{
+    return r->services[0] + r->services[1] * 2ul + r->services[2] * 3ul + r->services[3] * 4ul;
 }
 
 /* Each turn starts from one of two states, told by what the last turn gave, and stores all that it gives. */
@@ -407,8 +414,8 @@ u64 plain_run(u8 *first, usize first_length, const u8 *second, usize second_leng
               const u8 *device, usize device_length, u8 *room, usize room_length, u64 limit, u64 eop_at, u64 times)
 {
     struct lent l = {memory, memory_length, device, device_length, room, room_length};
-    struct told told[2] = {{0}, {0}};
-    TURNS(told[i] = run(&c, &l, limit, eop_at); last = told[i].states)
+    struct told told[2] = {0};
+    TURNS(told[i] = run(&c, l, limit, eop_at); last = told[i].states)
     return mixed(&told[0]);
 }
 
@@ -416,7 +423,7 @@ u64 plain_round(u8 *first, usize first_length, const u8 *second, usize second_le
                 const u8 *device, usize device_length, u8 *room, usize room_length, u32 k, u64 times)
 {
     struct lent l = {memory, memory_length, device, device_length, room, room_length};
-    struct told told[2] = {{0}, {0}};
-    TURNS(told[i] = round_of(&c, &l, k); last = told[i].states)
-    return mixed(&told[0]);
+    struct rounded told[2] = {0};
+    TURNS(told[i] = round_of(&c, l, k); last = told[i].total.states)
+    return mixed(&told[0].total) + begun(&told[0]);
 }

@@ -3,9 +3,9 @@
 // no turn's work can be left out, or be done once for all turns.
 use crate::told::all_of;
 use crate::told::answer_number;
-use crate::told::begun_of;
-use crate::told::round_number;
-use crate::told::run_number;
+use crate::told::nothing_told;
+use crate::told::round_told;
+use crate::told::run_told;
 use am9517::Controller;
 use round::round;
 use service::run;
@@ -111,11 +111,8 @@ pub extern "C" fn meter_run(
     let two = state_in(second);
     let starts = [one, two];
     let mut after = [one, two];
-    let mut numbers: [u64; 2] = [0, 0];
-    let mut transfers: [u64; 2] = [0, 0];
-    let mut used: [usize; 2] = [0, 0];
-    let mut written: [usize; 2] = [0, 0];
-    let mut states: [u64; 2] = [0, 0];
+    let nothing = nothing_told();
+    let mut tolds = [nothing, nothing];
     let mut last: u64 = 0;
     let mut left = times;
     while 0 < left {
@@ -123,17 +120,13 @@ pub extern "C" fn meter_run(
         let r = run(starts[i], memory, device, room, limit, eop_at);
         let next = r.controller;
         after[i] = next;
-        let answer = r.answer;
-        numbers[i] = run_number(answer);
-        transfers[i] = r.transfers;
-        used[i] = r.used;
-        written[i] = r.written;
-        states[i] = r.states;
-        last = r.states;
+        let told = run_told(r);
+        tolds[i] = told;
+        last = told.states;
         left -= 1;
     }
     sheet::write(after[0], first);
-    all_of(numbers[0], transfers[0], used[0], written[0], states[0])
+    all_of(tolds[0])
 }
 
 #[no_mangle]
@@ -150,11 +143,8 @@ pub extern "C" fn meter_round(
     let two = state_in(second);
     let starts = [one, two];
     let mut after = [one, two];
-    let mut numbers: [u64; 2] = [0, 0];
-    let mut transfers: [u64; 2] = [0, 0];
-    let mut used: [usize; 2] = [0, 0];
-    let mut written: [usize; 2] = [0, 0];
-    let mut states: [u64; 2] = [0, 0];
+    let nothing = nothing_told();
+    let mut tolds = [nothing, nothing];
     let mut last: u64 = 0;
     let mut left = times;
     while 0 < left {
@@ -162,16 +152,11 @@ pub extern "C" fn meter_round(
         let r = round(starts[i], memory, device, room, k);
         let next = r.controller;
         after[i] = next;
-        let answer = r.answer;
-        let services = r.services;
-        numbers[i] = round_number(answer) + begun_of(services);
-        transfers[i] = r.transfers;
-        used[i] = r.used;
-        written[i] = r.written;
-        states[i] = r.states;
-        last = r.states;
+        let told = round_told(r);
+        tolds[i] = told;
+        last = told.states;
         left -= 1;
     }
     sheet::write(after[0], first);
-    all_of(numbers[0], transfers[0], used[0], written[0], states[0])
+    all_of(tolds[0])
 }

@@ -1,9 +1,30 @@
 // What the operations tell, as numbers.
 use am9517::Answer;
 use round::RoundAnswer;
+use round::Rounded;
+use service::Ran;
 use service::Reason;
 use service::RunAnswer;
 ghost use Prim.Native.Nat.{_≤_};
+
+// What a run or a round told, its state aside.
+pub struct Told {
+    pub number: u64,
+    pub transfers: u64,
+    pub used: usize,
+    pub written: usize,
+    pub states: u64,
+}
+
+pub(crate) fn nothing_told() -> Told {
+    Told {
+        number: 0,
+        transfers: 0,
+        used: 0,
+        written: 0,
+        states: 0,
+    }
+}
 
 pub(crate) fn answer_number(answer: Answer) -> u64 {
     match answer {
@@ -25,14 +46,14 @@ fn reason_number(why: Reason) -> u64
     }
 }
 
-pub(crate) fn run_number(answer: RunAnswer) -> u64 {
+fn run_number(answer: RunAnswer) -> u64 {
     match answer {
         RunAnswer::Stopped(why) => reason_number(why),
         RunAnswer::Refused(number) => number as u64 + 256,
     }
 }
 
-pub(crate) fn round_number(answer: RoundAnswer) -> u64
+fn round_number(answer: RoundAnswer) -> u64
     ensures { λ r. ⌜ r ≤ 511 ⌝ }
 {
     match answer {
@@ -44,7 +65,7 @@ pub(crate) fn round_number(answer: RoundAnswer) -> u64
 }
 
 // The services of the four channels, in one number.
-pub(crate) fn begun_of(services: [u32; 4]) -> u64
+fn begun_of(services: [u32; 4]) -> u64
     ensures { λ r. ⌜ r ≤ 655360 ⌝ }
 {
     let first = services[0] % 65536;
@@ -54,8 +75,31 @@ pub(crate) fn begun_of(services: [u32; 4]) -> u64
     (first + second * 2 + third * 3 + fourth * 4) as u64
 }
 
-// All that a run or a round told, in one number.
-pub(crate) fn all_of(number: u64, transfers: u64, used: usize, written: usize, states: u64) -> u64 {
-    let moved = used as u64 % 4294967296 * 3 + written as u64 % 4294967296 * 5;
-    number % 4294967296 + transfers % 4294967296 * 2 + moved + states % 4294967296 * 7
+pub(crate) fn run_told(r: Ran) -> Told {
+    let answer = r.answer;
+    Told {
+        number: run_number(answer),
+        transfers: r.transfers,
+        used: r.used,
+        written: r.written,
+        states: r.states,
+    }
+}
+
+pub(crate) fn round_told(r: Rounded) -> Told {
+    let answer = r.answer;
+    let services = r.services;
+    Told {
+        number: round_number(answer) + begun_of(services),
+        transfers: r.transfers,
+        used: r.used,
+        written: r.written,
+        states: r.states,
+    }
+}
+
+// All of it in one number.
+pub(crate) fn all_of(t: Told) -> u64 {
+    let moved = t.used as u64 % 4294967296 * 3 + t.written as u64 % 4294967296 * 5;
+    t.number % 4294967296 + t.transfers % 4294967296 * 2 + moved + t.states % 4294967296 * 7
 }
