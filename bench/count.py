@@ -11,7 +11,7 @@ def number(value):
 def main(pattern):
     works = bench.read_works()
     if not bench.has_counter():
-        print("count: skipped, for there is no valgrind on this machine")
+        print("count: skipped, for there is no valgrind for this machine")
         return 0
     costs = bench.count(works)
     print(f"{'work':58} {'proved':>10} {'target':>8}  {'':4} {'plain C':>10} {'plain/proved':>12}")

@@ -1,7 +1,8 @@
 /* Does the works of the bench, on the proved controller or on the plain model.
      harness count        the works of standard input, one after the other, with a call of mark() before each
      harness time N       each work timed N times, in turn: lines 'INDEX NANOSECONDS' (of one turn)
-     harness check N      N random works on both sides; what they leave and tell must be equal
+     harness same         each work on both sides; what they leave and tell must be equal
+     harness check N      the same of N random works
    A work is a line of numbers, as struct work has them. */
 #include "works.h"
 
@@ -100,9 +101,10 @@ static u64 copy_library(u8 *to, const u8 *from, usize n, u64 times)
     default: return copy_library(memory, device, w->length, times); \
     }
 
-static u64 do_work(const struct work *w, u64 times)
+/* The state after it is left in `first`. */
+static u64 do_work(const struct work *w, u64 times, u8 *first)
 {
-    u8 first[56], second[56];
+    u8 second[56];
     put_state(first, w);
     memcpy(second, first, 56);
     if (w->side == PROVED) DO(meter)
@@ -123,10 +125,11 @@ static int read_works(void)
 
 static void count(int n)
 {
+    u8 sheet[56];
     u64 sum = 0;
     for (int i = 0; i < n; i++) {
         mark();
-        sum += do_work(&works[i], works[i].times);
+        sum += do_work(&works[i], works[i].times, sheet);
     }
     mark();
     printf("%lu\n", sum);
@@ -141,8 +144,9 @@ static double seconds(void)
 
 static double time_of(const struct work *w, u64 times)
 {
+    u8 sheet[56];
     double began = seconds();
-    do_work(w, times);
+    do_work(w, times, sheet);
     return seconds() - began;
 }
 
@@ -162,6 +166,37 @@ static void time_works(int n, int repeats)
 }
 
 /* ---- checking ---- */
+
+/* What one side left. */
+static struct {
+    u8 sheet[56], memory[65537], room[LENT];
+    u64 told;
+} left;
+
+static u64 do_afresh(struct work *w, int side, u8 *sheet)
+{
+    for (int i = 0; i < 65537; i++) memory[i] = (u8)(i * 31 + i / 253);
+    for (int i = 0; i < LENT; i++) room[i] = 0xee;
+    w->side = side;
+    return do_work(w, w->times, sheet);
+}
+
+static int same(int n)
+{
+    int wrong = 0;
+    for (int i = 0; i < n; i++) {
+        u8 sheet[56];
+        left.told = do_afresh(&works[i], PROVED, left.sheet);
+        memcpy(left.memory, memory, sizeof memory), memcpy(left.room, room, sizeof room);
+        if (do_afresh(&works[i], PLAIN, sheet) == left.told && memcmp(sheet, left.sheet, 56) == 0 &&
+            memcmp(memory, left.memory, sizeof memory) == 0 && memcmp(room, left.room, sizeof room) == 0)
+            continue;
+        printf("line %d differs\n", i + 1);
+        wrong++;
+    }
+    printf("%d works of the bench on the proved controller and the plain model, %d differ\n", n, wrong);
+    return wrong != 0;
+}
 
 static u64 seed = 88172645463325252ul;
 
@@ -189,7 +224,7 @@ static u8 random_mode(void)
     return (mode & 12) == 12 && mode < 192 ? mode ^ 4 : mode;
 }
 
-/* A state within its ranges, but for one in eight. */
+/* A state within its ranges, most of the time. */
 static void put_random_state(u8 *sheet, int open)
 {
     for (u32 n = 0; n < 4; n++) {
@@ -202,6 +237,7 @@ static void put_random_state(u8 *sheet, int open)
     sheet[43] = (u8)random_below(4), sheet[44] = (u8)open, sheet[45] = (u8)(open ? random_below(4) : 0);
     sheet[46] = (u8)(open ? random_below(2) : 0), sheet[47] = (u8)(sheet[46] ? random_below(256) : 0);
     if (random_below(8) == 0) sheet[random_below(48)] ^= (u8)(1u << random_below(8));
+    if (random_below(16) == 0) sheet[36 + random_below(12)] = (u8)random_below(20);
     put_trailer(sheet);
 }
 
@@ -246,6 +282,7 @@ static int differs(void)
                      random_below(3) ? 8192 : random_below(300), random_below(17), edge, random_below(2) ? random_below(30) : 0,
                      1 + random_below(3)};
     if (random_below(2) && family == RUN) number[4] = 65536;
+    if (random_below(8) == 0 && family == ROUND) number[4] = random_near(4096);
     for (int side = PROVED; side <= PLAIN; side++) {
         struct outcome *o = &outcomes[side];
         memcpy(o->sheet, first, 56);
@@ -274,7 +311,8 @@ int main(int words, char **word)
     for (int i = 0; i < LENT; i++) device[i] = (u8)(i * 7 + i / 251 + 3);
     if (words == 2 && strcmp(word[1], "count") == 0) return count(read_works()), 0;
     if (words == 3 && strcmp(word[1], "time") == 0) return time_works(read_works(), atoi(word[2])), 0;
+    if (words == 2 && strcmp(word[1], "same") == 0) return same(read_works());
     if (words == 3 && strcmp(word[1], "check") == 0) return check(atoi(word[2]));
-    printf("harness count | time N | check N\n");
+    printf("harness count | time N | same | check N\n");
     return 2;
 }

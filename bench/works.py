@@ -1,5 +1,6 @@
 """The works of works.txt, and how the harness counts and times them."""
 import os
+import platform
 import re
 import shutil
 import statistics
@@ -7,7 +8,7 @@ import subprocess
 import tempfile
 
 HERE = os.path.dirname(os.path.abspath(__file__))
-HARNESS = os.path.join(HERE, "..", "target", "bench", "harness")
+BUILT = os.path.join(HERE, "..", "target", "bench")
 SIDES = ("proved", "plain")
 
 
@@ -54,7 +55,7 @@ def sides_of(work):
 
 
 def has_counter():
-    return shutil.which("valgrind") is not None
+    return platform.machine() == "x86_64" and shutil.which("valgrind") is not None
 
 
 def count(works):
@@ -64,7 +65,7 @@ def count(works):
     costs = {}
     with tempfile.TemporaryDirectory() as folder:
         out = os.path.join(folder, "out")
-        command = ["valgrind", "--tool=callgrind", f"--callgrind-out-file={out}", "--dump-before=mark", HARNESS, "count"]
+        command = ["valgrind", "--tool=callgrind", f"--callgrind-out-file={out}", "--dump-before=mark", os.path.join(BUILT, "harness"), "count"]
         subprocess.run(command, input=lines, text=True, check=True, capture_output=True)
         for number, part in enumerate(parts):
             text = open(f"{out}.{number + 2}").read()
@@ -80,7 +81,7 @@ def time(works, repeats):
     """Nanoseconds of one turn of each work: {(index, side): [one of each repeat]}. The works take turns, so that all meet the same noise."""
     parts = [(i, side) for i, work in enumerate(works) for side in sides_of(work)]
     lines = "\n".join(works[i].line(side, 1) for i, side in parts)
-    said = subprocess.run([HARNESS, "time", str(repeats)], input=lines, text=True, check=True, capture_output=True).stdout
+    said = subprocess.run([os.path.join(BUILT, "do"), "time", str(repeats)], input=lines, text=True, check=True, capture_output=True).stdout
     found = {part: [] for part in parts}
     for line in said.splitlines():
         index, nanoseconds = line.split()
