@@ -12,6 +12,8 @@ import works as bench
 ROOT = os.path.join(bench.HERE, "..")
 LENGTHS = [1, 2, 4, 8, 16, 32, 64, 128, 256, 512, 1024, 2048, 4096, 8192, 16384, 32768, 65536]
 SERVICES = [1, 2, 4, 8, 16, 32, 64, 128, 256, 512, 1024, 2048, 4096]
+# whole services that move 65,536 bytes
+LONG = ["write-up", "read-up", "demand-write-up", "demand-read-up", "write-up-middle", "write-down", "read-down", "copy-apart-whole"]
 BY_LENGTH = [
     ("write-up", "proved", "block write, up"),
     ("write-up", "plain", "block write, up, plain C"),
@@ -112,30 +114,28 @@ def missed(measured):
     if over:
         out += ["Missed:", ""]
     for i in over:
-        work = measured.works[i]
-        value = number(bench.per_unit(measured.works, measured.counts, i, "proved"))
-        out.append(f"- {work.group}, {work.label}: {value}, at most {work.target.split()[0]} asked")
+        value, target = number(bench.per_unit(measured.works, measured.counts, i, "proved")), measured.works[i].target.split()[0]
+        out.append(f"- {measured.works[i].whole_label()}: {value}, asked for {target}")
     return out
 
 
 def slower(measured):
-    ratios = [(measured.ratio(i), i) for i, work in enumerate(measured.works) if work.both() and work.key != "nothing"]
-    slow = sorted((ratio, i) for ratio, i in ratios if ratio < 1)
-    out = [f"In time {len(ratios) - len(slow)} of {len(ratios)} works are as fast as plain C or faster."]
+    ratios = sorted((measured.ratio(i), i) for i, work in enumerate(measured.works) if work.both() and work.key != "nothing")
+    slow = [(ratio, i) for ratio, i in ratios if ratio < 1]
+    out = [f"In time {len(ratios) - len(slow)} of {len(ratios)} works are as fast as plain C or faster; asked for: all of them."]
     if slow:
         out += ["Slower:", ""]
-    for ratio, i in slow:
-        work = measured.works[i]
-        out.append(f"- {work.group}, {work.label}: {ratio:.2f} times as fast")
-    long_ones = [(ratio, i) for ratio, i in ratios if measured.works[i].key in LONG]
-    least, i = min(long_ones)
-    most, _ = max(long_ones)
-    out += ["", f"Long blocks (whole services of 65,536 bytes, verify aside) are {least:,.0f} to {most:,.0f} times as fast as plain C;"
-            f" 50 were asked for. The least is {measured.works[i].label}."]
-    return out
+    return out + [f"- {measured.works[i].whole_label()}: {ratio:.2f} times as fast" for ratio, i in slow]
 
 
-LONG = ["write-up", "read-up", "demand-write-up", "demand-read-up", "write-up-middle", "write-down", "read-down", "copy-apart-whole"]
+def long_blocks(measured):
+    works = measured.works
+    ratios = sorted((measured.ratio(i), i) for i, work in enumerate(works) if work.key in LONG)
+    low = [(ratio, i) for ratio, i in ratios if ratio < 50]
+    out = [f"Whole services that move 65,536 bytes are {ratios[0][0]:,.0f} to {ratios[-1][0]:,.0f} times as fast as plain C; asked for: at least 50 times."]
+    if low:
+        out += ["Below:", ""]
+    return out + [f"- {works[i].whole_label()}: {ratio:.0f} times as fast" for ratio, i in low]
 
 
 def against_copy(measured):
@@ -145,8 +145,8 @@ def against_copy(measured):
     rows = []
     for key in ("write-up", "read-up", "demand-write-up", "copy-apart-whole", "write-down", "read-down"):
         i = bench.index_of(works, key)
-        rows.append(f"| {works[i].label} | {best[i, 'proved'] / best[loop, 'proved']:.2f} | {best[i, 'proved'] / best[library, 'proved']:.2f} |")
-    return ["| whole service of 65,536 bytes | bare copy loops | memcpys |", "|---|---:|---:|", *rows]
+        rows.append(f"| {works[i].whole_label()} | {best[i, 'proved'] / best[loop, 'proved']:.2f} | {best[i, 'proved'] / best[library, 'proved']:.2f} |")
+    return ["| service | copy loops | memcpys |", "|---|---:|---:|", *rows]
 
 
 # ---- charts ----
@@ -231,7 +231,9 @@ def page(measured):
         "",
         *slower(measured),
         "",
-        "In time, as many of these copies of 64 KiB fit into one service:",
+        *long_blocks(measured),
+        "",
+        "As many bare copies of 64 KiB are made in the time of one service:",
         "",
         *against_copy(measured),
         "",

@@ -1,9 +1,9 @@
 """The works of works.txt, and how the harness counts and times them."""
+import copy
 import os
 import platform
 import re
 import shutil
-import statistics
 import subprocess
 import tempfile
 
@@ -24,8 +24,7 @@ class Work:
 
     def at(self, length=None, k=None):
         """The same work at another length or for another number of services."""
-        other = Work.__new__(Work)
-        other.__dict__.update(self.__dict__)
+        other = copy.copy(self)
         other.numbers = list(self.numbers)
         if length is not None:
             other.length = other.numbers[6] = length
@@ -33,6 +32,10 @@ class Work:
             other.k = other.numbers[7] = k
         other.turns = 4
         return other
+
+    def whole_label(self):
+        """Its label with its group."""
+        return f"{self.group}: {self.label}"
 
     def both(self):
         """Whether there are two sides of it: a bare copy has one."""
@@ -116,10 +119,6 @@ def met(works, costs, i):
         other = per_unit(works, costs, index_of(works, target.split()[1]), "proved")
         return abs(value - other) <= other / 10
     return value <= float(target)
-
-
-def medians(times):
-    return {part: statistics.median(values) for part, values in times.items()}
 
 
 def bests(times):
