@@ -1,0 +1,318 @@
+/* Does the works of the bench, on the proved controller or on the plain model.
+     harness count        the works of standard input, one after the other, with a call of mark() before each
+     harness time N       each work timed N times, in turn: lines 'INDEX NANOSECONDS' (of one turn)
+     harness same         each work on both sides; what they leave and tell must be equal
+     harness check N      the same of N random works
+   A work is a line of numbers, as struct work has them. */
+#include "works.h"
+
+int printf(const char *, ...);
+int scanf(const char *, ...);
+int strcmp(const char *, const char *);
+int memcmp(const void *, const void *, usize);
+void *memcpy(void *, const void *, usize);
+int atoi(const char *);
+struct timespec { long seconds, nanoseconds; };
+int clock_gettime(int, struct timespec *);
+
+enum { PROVED, PLAIN };
+enum { NOTHING, WRITE, READ, RUN, ROUND, LOOP, MEMCPY };
+enum { LENT = 1 << 20, WORKS_MAX = 2000 };
+
+struct work {
+    int side, family;
+    u32 mode, other_mode, command, from, to, length, k, reg, byte;
+    u64 times;
+};
+
+static u8 memory[65537], device[LENT], room[LENT];
+static struct work works[WORKS_MAX];
+
+__attribute__((noinline)) void mark(void) { __asm__ volatile("" ::: "memory"); }
+
+/* ---- states, as sheets ---- */
+
+static void put_word(u8 *b, u32 value)
+{
+    b[0] = (u8)value;
+    b[1] = (u8)(value >> 8);
+}
+
+static void put_channel(u8 *sheet, u32 n, u32 address, u32 count, u32 mode)
+{
+    u8 *p = sheet + 9 * n;
+    put_word(p, address), put_word(p + 2, address);
+    put_word(p + 4, count), put_word(p + 6, count);
+    p[8] = (u8)mode;
+}
+
+static void put_trailer(u8 *sheet)
+{
+    u32 sum = 0;
+    for (int i = 0; i < 48; i++) sum += sheet[i];
+    sheet[48] = 1, sheet[49] = 0, sheet[50] = 48, sheet[51] = 0;
+    put_word(sheet + 52, sum);
+    sheet[54] = 0x44, sheet[55] = 0x4d;
+}
+
+/* All lines active and unmasked; for a run the service of channel 0 is open. */
+static void put_state(u8 *sheet, const struct work *w)
+{
+    for (int i = 0; i < 48; i++) sheet[i] = 0;
+    for (u32 n = 0; n < 4; n++) {
+        u32 address = w->family == ROUND ? n * 0x4000 : n == 1 ? w->to : w->from;
+        put_channel(sheet, n, address, w->length - 1, n == 1 && w->family == RUN ? w->other_mode : w->mode);
+    }
+    sheet[36] = (u8)w->command;
+    sheet[42] = 15;
+    sheet[43] = 3;
+    sheet[44] = w->family == RUN;
+    put_trailer(sheet);
+}
+
+/* ---- one work ---- */
+
+static u64 copy_loop(u8 *to, const u8 *from, usize n, u64 times)
+{
+    for (; times > 0; times--) {
+        for (usize i = 0; i < n; i++) to[i] = from[i];
+        __asm__ volatile("" ::: "memory");
+    }
+    return to[0];
+}
+
+static u64 copy_library(u8 *to, const u8 *from, usize n, u64 times)
+{
+    for (; times > 0; times--) {
+        memcpy(to, from, n);
+        __asm__ volatile("" ::: "memory");
+    }
+    return to[0];
+}
+
+#define DO(side) \
+    switch (w->family) { \
+    case NOTHING: return side##_nothing(first, 56, second, 56, times); \
+    case WRITE: return side##_write(first, 56, second, 56, w->reg, w->reg, (u8)w->byte, times); \
+    case READ: return side##_read(first, 56, second, 56, w->reg, w->reg, times); \
+    case RUN: return side##_run(first, 56, second, 56, memory, 65536, device, LENT, room, LENT, 65536, 0, times); \
+    case ROUND: return side##_round(first, 56, second, 56, memory, 65536, device, LENT, room, LENT, w->k, times); \
+    case LOOP: return copy_loop(memory, device, w->length, times); \
+    default: return copy_library(memory, device, w->length, times); \
+    }
+
+/* The state after it is left in `first`. */
+static u64 do_work(const struct work *w, u64 times, u8 *first)
+{
+    u8 second[56];
+    put_state(first, w);
+    memcpy(second, first, 56);
+    if (w->side == PROVED) DO(meter)
+    else DO(plain)
+}
+
+/* ---- counting and timing ---- */
+
+static int read_works(void)
+{
+    int n = 0;
+    struct work *w = works;
+    while (n < WORKS_MAX && scanf("%d %d %i %i %i %i %i %i %i %i %i %lu", &w->side, &w->family, &w->mode, &w->other_mode,
+                                  &w->command, &w->from, &w->to, &w->length, &w->k, &w->reg, &w->byte, &w->times) == 12)
+        n++, w++;
+    return n;
+}
+
+static void count(int n)
+{
+    u8 sheet[56];
+    u64 sum = 0;
+    for (int i = 0; i < n; i++) {
+        mark();
+        sum += do_work(&works[i], works[i].times, sheet);
+    }
+    mark();
+    printf("%lu\n", sum);
+}
+
+static double seconds(void)
+{
+    struct timespec t;
+    clock_gettime(1, &t);
+    return (double)t.seconds + 1e-9 * (double)t.nanoseconds;
+}
+
+static double time_of(const struct work *w, u64 times)
+{
+    u8 sheet[56];
+    double began = seconds();
+    do_work(w, times, sheet);
+    return seconds() - began;
+}
+
+/* Turns enough for about a millisecond. */
+static u64 turns_of(const struct work *w)
+{
+    u64 times = 1;
+    while (time_of(w, times) < 0.0005) times *= 2;
+    return 2 * times;
+}
+
+static void time_works(int n, int repeats)
+{
+    for (int i = 0; i < n; i++) works[i].times = turns_of(&works[i]);
+    for (int r = 0; r < repeats; r++)
+        for (int i = 0; i < n; i++) printf("%d %.4f\n", i, 1e9 * time_of(&works[i], works[i].times) / (double)works[i].times);
+}
+
+/* ---- checking ---- */
+
+/* What one side left. */
+static struct {
+    u8 sheet[56], memory[65537], room[LENT];
+    u64 told;
+} left;
+
+static u64 do_afresh(struct work *w, int side, u8 *sheet)
+{
+    for (int i = 0; i < 65537; i++) memory[i] = (u8)(i * 31 + i / 253);
+    for (int i = 0; i < LENT; i++) room[i] = 0xee;
+    w->side = side;
+    return do_work(w, w->times, sheet);
+}
+
+static int same(int n)
+{
+    int wrong = 0;
+    for (int i = 0; i < n; i++) {
+        u8 sheet[56];
+        left.told = do_afresh(&works[i], PROVED, left.sheet);
+        memcpy(left.memory, memory, sizeof memory), memcpy(left.room, room, sizeof room);
+        if (do_afresh(&works[i], PLAIN, sheet) == left.told && memcmp(sheet, left.sheet, 56) == 0 &&
+            memcmp(memory, left.memory, sizeof memory) == 0 && memcmp(room, left.room, sizeof room) == 0)
+            continue;
+        printf("line %d differs\n", i + 1);
+        wrong++;
+    }
+    printf("%d works of the bench on the proved controller and the plain model, %d differ\n", n, wrong);
+    return wrong != 0;
+}
+
+static u64 seed = 88172645463325252ul;
+
+static u32 random_below(u32 n)
+{
+    seed ^= seed << 13, seed ^= seed >> 7, seed ^= seed << 17;
+    return (u32)(seed >> 32) % n;
+}
+
+static u32 random_near(u32 edge) { return edge + random_below(5) - 2; }
+
+static u32 random_word(void)
+{
+    switch (random_below(4)) {
+    case 0: return random_below(20);
+    case 1: return 65535 - random_below(20);
+    case 2: return random_near(256 * random_below(256)) & 65535;
+    default: return random_below(65536);
+    }
+}
+
+static u8 random_mode(void)
+{
+    u8 mode = (u8)(random_below(64) << 2);
+    return (mode & 12) == 12 && mode < 192 ? mode ^ 4 : mode;
+}
+
+/* A state within its ranges, most of the time. */
+static void put_random_state(u8 *sheet, int open)
+{
+    for (u32 n = 0; n < 4; n++) {
+        put_channel(sheet, n, random_word(), random_word(), random_mode());
+        put_word(sheet + 9 * n, random_word()), put_word(sheet + 9 * n + 4, random_word());
+    }
+    sheet[36] = (u8)(random_below(256) & (random_below(4) ? ~4u : ~0u));
+    for (int i = 37; i <= 39; i++) sheet[i] = (u8)random_below(16);
+    sheet[40] = (u8)random_below(256), sheet[41] = (u8)random_below(2), sheet[42] = (u8)random_below(16);
+    sheet[43] = (u8)random_below(4), sheet[44] = (u8)open, sheet[45] = (u8)(open ? random_below(4) : 0);
+    sheet[46] = (u8)(open ? random_below(2) : 0), sheet[47] = (u8)(sheet[46] ? random_below(256) : 0);
+    if (random_below(8) == 0) sheet[random_below(48)] ^= (u8)(1u << random_below(8));
+    if (random_below(16) == 0) sheet[36 + random_below(12)] = (u8)random_below(20);
+    put_trailer(sheet);
+}
+
+struct outcome {
+    u8 sheet[56], memory[65537], room[8192];
+    u64 told;
+};
+
+static struct outcome outcomes[2];
+
+static u64 random_work(int side, struct outcome *o, const u8 *second, int family, const u64 *number)
+{
+    u8 *first = o->sheet;
+    usize lent = number[0], bytes = number[1], places = number[2];
+    u32 reg = (u32)number[3];
+    u64 times = number[6];
+    switch (2 * family + side) {
+    case 2 * WRITE + PROVED: return meter_write(first, 56, second, 56, reg, reg, (u8)number[4], times);
+    case 2 * WRITE + PLAIN: return plain_write(first, 56, second, 56, reg, reg, (u8)number[4], times);
+    case 2 * READ + PROVED: return meter_read(first, 56, second, 56, reg, reg, times);
+    case 2 * READ + PLAIN: return plain_read(first, 56, second, 56, reg, reg, times);
+    case 2 * RUN + PROVED:
+        return meter_run(first, 56, second, 56, o->memory, lent, device, bytes, o->room, places, number[4], number[5], times);
+    case 2 * RUN + PLAIN:
+        return plain_run(first, 56, second, 56, o->memory, lent, device, bytes, o->room, places, number[4], number[5], times);
+    case 2 * ROUND + PROVED:
+        return meter_round(first, 56, second, 56, o->memory, lent, device, bytes, o->room, places, (u32)number[4], times);
+    default:
+        return plain_round(first, 56, second, 56, o->memory, lent, device, bytes, o->room, places, (u32)number[4], times);
+    }
+}
+
+/* One random work on both sides; 0 where they agree. */
+static int differs(void)
+{
+    int family = WRITE + (int)random_below(4);
+    u8 first[56], second[56];
+    put_random_state(first, random_below(16) ? family == RUN : family != RUN);
+    put_random_state(second, family == RUN);
+    u64 edge = random_below(3) ? random_below(40) : random_word();
+    u64 number[7] = {random_below(16) ? 65536 : random_near(65536) & 65535, random_below(3) ? 70000 : random_below(300),
+                     random_below(3) ? 8192 : random_below(300), random_below(17), edge, random_below(2) ? random_below(30) : 0,
+                     1 + random_below(3)};
+    if (random_below(2) && family == RUN) number[4] = 65536;
+    if (random_below(8) == 0 && family == ROUND) number[4] = random_near(4096);
+    for (int side = PROVED; side <= PLAIN; side++) {
+        struct outcome *o = &outcomes[side];
+        memcpy(o->sheet, first, 56);
+        for (int i = 0; i < 65537; i++) o->memory[i] = (u8)(i * 31 + i / 253);
+        for (int i = 0; i < 8192; i++) o->room[i] = 0xee;
+        o->told = random_work(side, o, second, family, number);
+    }
+    return outcomes[0].told != outcomes[1].told || memcmp(outcomes[0].sheet, outcomes[1].sheet, 56) ||
+           memcmp(outcomes[0].memory, outcomes[1].memory, 65537) || memcmp(outcomes[0].room, outcomes[1].room, 8192);
+}
+
+static int check(int n)
+{
+    int wrong = 0;
+    for (int i = 0; i < n; i++)
+        if (differs()) {
+            printf("work %d differs\n", i);
+            wrong++;
+        }
+    printf("%d random works on the proved controller and the plain model, %d differ\n", n, wrong);
+    return wrong != 0;
+}
+
+int main(int words, char **word)
+{
+    for (int i = 0; i < LENT; i++) device[i] = (u8)(i * 7 + i / 251 + 3);
+    if (words == 2 && strcmp(word[1], "count") == 0) return count(read_works()), 0;
+    if (words == 3 && strcmp(word[1], "time") == 0) return time_works(read_works(), atoi(word[2])), 0;
+    if (words == 2 && strcmp(word[1], "same") == 0) return same(read_works());
+    if (words == 3 && strcmp(word[1], "check") == 0) return check(atoi(word[2]));
+    printf("harness count | time N | same | check N\n");
+    return 2;
+}

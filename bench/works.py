@@ -1,0 +1,125 @@
+"""The works of works.txt, and how the harness counts and times them."""
+import copy
+import os
+import platform
+import re
+import shutil
+import subprocess
+import tempfile
+
+HERE = os.path.dirname(os.path.abspath(__file__))
+BUILT = os.path.join(HERE, "..", "target", "bench")
+SIDES = ("proved", "plain")
+
+
+class Work:
+    def __init__(self, line, group):
+        self.key, self.label, self.unit, self.target, numbers, turns = [part.strip() for part in line.split("|")]
+        self.group, self.turns = group, int(turns)
+        self.numbers = [int(number, 0) for number in numbers.split()]
+        self.length, self.k = self.numbers[6], self.numbers[7]
+
+    def line(self, side, turns):
+        return " ".join(str(n) for n in [SIDES.index(side), *self.numbers, turns])
+
+    def at(self, length=None, k=None):
+        """The same work at another length or for another number of services."""
+        other = copy.copy(self)
+        other.numbers = list(self.numbers)
+        if length is not None:
+            other.length = other.numbers[6] = length
+        if k is not None:
+            other.k = other.numbers[7] = k
+        other.turns = 4
+        return other
+
+    def whole_label(self):
+        """Its label with its group."""
+        return f"{self.group}: {self.label}"
+
+    def both(self):
+        """Whether there are two sides of it: a bare copy has one."""
+        return self.numbers[0] < 5
+
+
+def read_works():
+    works, group = [], ""
+    for line in open(os.path.join(HERE, "works.txt"), encoding="utf-8"):
+        line = line.strip()
+        if line.startswith("["):
+            group = line[1:-1]
+        elif line and not line.startswith("#"):
+            works.append(Work(line, group))
+    return works
+
+
+def sides_of(work):
+    return SIDES if work.both() else ("proved",)
+
+
+def has_counter():
+    return platform.machine() == "x86_64" and shutil.which("valgrind") is not None
+
+
+def count(works):
+    """Instructions of one turn of each work: {(index, side): number}. By callgrind, as the difference of two numbers of turns."""
+    parts = [(i, side, turns) for i, work in enumerate(works) for side in sides_of(work) for turns in (1, 1 + work.turns)]
+    lines = "\n".join(works[i].line(side, turns) for i, side, turns in parts)
+    costs = {}
+    with tempfile.TemporaryDirectory() as folder:
+        out = os.path.join(folder, "out")
+        command = ["valgrind", "--tool=callgrind", f"--callgrind-out-file={out}", "--dump-before=mark", os.path.join(BUILT, "harness"), "count"]
+        subprocess.run(command, input=lines, text=True, check=True, capture_output=True)
+        for number, part in enumerate(parts):
+            text = open(f"{out}.{number + 2}").read()
+            costs[part] = int(re.search(r"^summary: (\d+)", text, re.M).group(1))
+    found = {}
+    for i, work in enumerate(works):
+        for side in sides_of(work):
+            found[i, side] = (costs[i, side, 1 + work.turns] - costs[i, side, 1]) / work.turns
+    return found
+
+
+def time(works, repeats):
+    """Nanoseconds of one turn of each work: {(index, side): [one of each repeat]}. The works take turns, so that all meet the same noise."""
+    parts = [(i, side) for i, work in enumerate(works) for side in sides_of(work)]
+    lines = "\n".join(works[i].line(side, 1) for i, side in parts)
+    said = subprocess.run([os.path.join(BUILT, "do"), "time", str(repeats)], input=lines, text=True, check=True, capture_output=True).stdout
+    found = {part: [] for part in parts}
+    for line in said.splitlines():
+        index, nanoseconds = line.split()
+        found[parts[int(index)]].append(float(nanoseconds))
+    return found
+
+
+def per_unit(works, costs, i, side):
+    """The cost of one unit of work i."""
+    work, cost = works[i], costs[i, side]
+    if work.unit == "byte":
+        return cost / work.length
+    if work.unit == "service":
+        return cost / work.k
+    if work.unit.startswith("beside "):
+        rate = index_of(works, work.unit.split()[1])
+        return cost / work.k - work.length * costs[rate, side] / works[rate].length
+    return cost
+
+
+def index_of(works, key):
+    return next(i for i, work in enumerate(works) if work.key == key)
+
+
+def met(works, costs, i):
+    """Whether the target of work i is met; None where it has none."""
+    target = works[i].target
+    value = per_unit(works, costs, i, "proved")
+    if target == "-":
+        return None
+    if target.startswith("constant "):
+        other = per_unit(works, costs, index_of(works, target.split()[1]), "proved")
+        return abs(value - other) <= other / 10
+    return value <= float(target)
+
+
+def bests(times):
+    return {part: min(values) for part, values in times.items()}
