@@ -1,0 +1,4 @@
+-- Laws about the definitions of specs/.
+pub mod AnswerLaws
+pub mod ArrayLaws
+pub mod ServiceLaws
