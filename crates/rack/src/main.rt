@@ -1,27 +1,33 @@
-// Reads a script from standard input, or from the file that the first argument names, and writes the console's answers.
+// Reads a script from standard input, or from the file that the argument names, and writes the console's answers.
 use console::Session;
 use console::feed;
 use libc::STDERR_FILENO;
 use libc::STDIN_FILENO;
 use libc::STDOUT_FILENO;
-ghost use Prim.Native.Nat.{_≤_};
-ghost use mathlib.Core.Path.{_≡_};
-ghost use lib.ListN.{length};
+use text::line::same;
 
 // No answer is longer than this: 70,000 bytes as digits, a word and a newline.
 const ANSWER: usize = 150000;
 
-// The session after a read, whether more may come, and whether the read failed.
+// The session after a read, and whether more may come.
 struct Turn {
     session: Session,
     is_more: bool,
-    is_bad: bool,
+}
+
+// Says in words why a call on this thing failed.
+fn complain(what: &[u8]) {
+    io::write_all(STDERR_FILENO, b"rack: ");
+    os::fail(what);
 }
 
 // Writes the answers that wait: none waits after it.
 fn flush(out: &[u8], waiting: usize) -> usize {
-    if waiting <= out.len() {
-        io::write_all(STDOUT_FILENO, &out[0..waiting]);
+    if out.len() < waiting {
+        return 0;
+    }
+    if !io::write_all(STDOUT_FILENO, &out[0..waiting]) {
+        complain(b"standard output");
     }
     0
 }
@@ -66,9 +72,17 @@ fn feed_all(
     now
 }
 
+// A person is asked for the next line, unless one is under way.
+fn ask(prompt: bool, length: usize) {
+    if prompt & (length == 0) {
+        io::write_all(STDOUT_FILENO, b"> ");
+    }
+}
+
 // Reads once, takes what came, and writes the answers: a person sees them at once.
 fn read_once(
     fd: i32,
+    name: &[u8],
     session: Session,
     part: &mut [u8],
     line: &mut [u8],
@@ -79,11 +93,13 @@ fn read_once(
     out: &mut [u8],
 ) -> Turn {
     let got = libc::read(fd, part);
+    if got < 0 {
+        complain(name);
+    }
     if got <= 0 {
         return Turn {
             session,
             is_more: false,
-            is_bad: got < 0,
         };
     }
     let n = io::count(got, part);
@@ -92,27 +108,27 @@ fn read_once(
     Turn {
         session: next,
         is_more: true,
-        is_bad: false,
     }
 }
 
-// Runs the script to its end and says whether all of it could be read. A proved loop has to end, and nothing says that a
-// file does: the turns count down, from a number that no run uses up.
+// Runs the script to its end. A proved loop has to end, and nothing says that a file does: the turns count down, from a
+// number that no run uses up.
 fn run(
     fd: i32,
+    name: &[u8],
+    prompt: bool,
     line: &mut [u8],
     memory: &mut [u8],
     queue: &mut [u8],
     room: &mut [u8],
     spare: &mut [u8],
     out: &mut [u8],
-) -> bool {
+) {
     let mut part = io::large_buffer();
     let session = Session::start();
     let mut now = Turn {
         session,
         is_more: true,
-        is_bad: false,
     };
     let mut turns = u64::MAX;
     while turns > 0 {
@@ -121,18 +137,18 @@ fn run(
             break;
         }
         let before = now.session;
-        now = read_once(fd, before, &mut part, line, memory, queue, room, spare, out);
+        ask(prompt, before.length);
+        now = read_once(fd, name, before, &mut part, line, memory, queue, room, spare, out);
     }
     // the last line may lack its newline
     let last = now.session;
     let ended = feed(last, b"\n", 0, line, memory, queue, room, spare, out);
     let end = ended.session;
     flush(out, end.waiting);
-    !now.is_bad
 }
 
 // Makes the arrays, once, and runs the script.
-fn start(fd: i32) -> bool {
+fn start(fd: i32, name: &[u8], prompt: bool) {
     let mut line = [0u8; 200002];
     let mut memory = [0u8; 65537];
     let mut queue = [0u8; 140000];
@@ -141,25 +157,34 @@ fn start(fd: i32) -> bool {
     let mut out = [0u8; 262144];
     run(
         fd,
+        name,
+        prompt,
         &mut line,
         &mut memory,
         &mut queue,
         &mut room,
         &mut spare,
         &mut out,
-    )
+    );
 }
 
-fn complain(what: &[u8]) {
-    io::write_all(STDERR_FILENO, b"rack: ");
-    os::fail(what);
+fn start_file(path: &[u8]) {
+    let fd = os::open_read(path);
+    if fd < 0 {
+        complain(path);
+        return;
+    }
+    start(fd, path, false);
+    libc::close(fd);
 }
 
 fn main() {
     if os::arg_count() < 2 {
-        if !start(STDIN_FILENO) {
-            complain(b"standard input");
-        }
+        start(STDIN_FILENO, b"standard input", false);
+        return;
+    }
+    if os::arg_count() > 2 {
+        io::write_all(STDERR_FILENO, b"rack: one file at most\n");
         return;
     }
     let mut path = io::buffer();
@@ -168,13 +193,10 @@ fn main() {
         complain(b"the file's name");
         return;
     }
-    let fd = os::open_read(&path[..length]);
-    if fd < 0 {
-        complain(&path[..length]);
+    if same(&path[..length], b"--prompt") {
+        start(STDIN_FILENO, b"standard input", true);
+        io::write_all(STDOUT_FILENO, b"\n");
         return;
     }
-    if !start(fd) {
-        complain(&path[..length]);
-    }
-    libc::close(fd);
+    start_file(&path[..length]);
 }
