@@ -1,15 +1,11 @@
 -- The commands: each is a name and a number of further words.
 use Prim.Native.Nat.{ℕ}
-use mathlib.Core.Bool.{Bool, true, false}
+use mathlib.Core.Bool.{Bool}
 use mathlib.Core.List.{List, [], _∷_, _++_}
 use lib.Dec.{eqb}
 use Rattle.words.specs.Choice.{_and_}
 use Rattle.words.specs.Grounds.{Ground, _if_, first}
-use Rattle.am9517.specs.State.{fresh}
-use Rattle.am9517.specs.Answers.{resetOf, grantOf}
-use Rattle.am9517.specs.declared.Controller.{Controller}
 use Rattle.text.specs.Text.{codes, same}
-use Rattle.console.specs.Answers.{Reply, reply, errorReply, outcomeReply, okText, stateText, stateReply, writeReply, readReply, pinsReply, sheetReply, loadReply}
 
 -- a line of this name with n further words is the command of that name with k
 unfoldable pub isForm : List ℕ → ℕ → List ℕ → ℕ → Bool
@@ -53,19 +49,3 @@ otherForms name n =
 -- 0 for anything else
 unfoldable pub formOf : List ℕ → ℕ → ℕ
 formOf name n = first (controllerForms name n) (first (arrayForms name n) (first (otherForms name n) 0))
-
--- what the commands 1 to 10 do to the controller, and what they answer; `spare` bytes are lent for a sheet
-unfoldable pub replyTo : ℕ → Controller → List ℕ → List ℕ → ℕ → Reply
-replyTo form c one two spare =
-    first (
-    reply c (stateText c) if eqb form 1
-    ∷ stateReply c one if eqb form 2
-    ∷ reply fresh okText if eqb form 3
-    ∷ writeReply c one two if eqb form 4
-    ∷ readReply c one if eqb form 5
-    ∷ pinsReply c one if eqb form 6
-    ∷ outcomeReply false (resetOf c) if eqb form 7
-    ∷ outcomeReply true (grantOf c) if eqb form 8
-    ∷ sheetReply spare c one if eqb form 9
-    ∷ loadReply spare c one if eqb form 10
-    ∷ []) (errorReply c)

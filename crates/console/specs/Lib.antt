@@ -1,5 +1,2 @@
--- The console, from the protocol's page: what each command does and answers.
-pub mod Answers
-pub mod Arrays
-pub mod Services
+-- The commands of the protocol's page.
 pub mod Commands

@@ -1,25 +1,25 @@
 // One line: what it does to what the console holds, and its answer.
 use crate::Console;
-use crate::answers::error;
-use crate::arrays::feed;
-use crate::arrays::fill;
-use crate::arrays::lend;
-use crate::arrays::make_room;
-use crate::arrays::peek;
-use crate::arrays::poke;
-use crate::chip::on_controller;
 use crate::forms::form_of;
-use text::line::same;
-use text::line::word;
-use text::page::byte;
+use answers::error;
+use arrays::feed;
+use arrays::fill;
+use arrays::lend;
+use arrays::make_room;
+use arrays::peek;
+use arrays::poke;
+use control::on_controller;
+use runs::Served;
+use runs::go_round;
+use runs::run;
 use shown::help;
 use shown::help_refusals;
 use shown::show;
 use shown::show_arrays;
 use shown::show_room;
-use crate::services::Served;
-use crate::services::go_round;
-use crate::services::run;
+use text::line::same;
+use text::line::word;
+use text::page::byte;
 ghost use Prim.Native.Nat.{_≤_};
 ghost use lib.ListN.{length};
 
@@ -115,7 +115,14 @@ fn roomed(
     }
 }
 
-fn shown(console: Console, room: &[u8], one: &[u8], two: &[u8], out: &mut [u8], at: usize) -> Executed {
+fn shown(
+    console: Console,
+    room: &[u8],
+    one: &[u8],
+    two: &[u8],
+    out: &mut [u8],
+    at: usize,
+) -> Executed {
     let size = console.size;
     if room.len() < size {
         return failed(console, out, at);
@@ -320,7 +327,18 @@ pub fn execute(
     let form = form_of(&line[name_from..name_to], n);
     let first = &line[one_from..one_to];
     let second = &line[two_from..two_to];
-    let done = perform(console, form, first, second, memory, queue, room, spare, out, at);
+    let done = perform(
+        console,
+        form,
+        first,
+        second,
+        memory,
+        queue,
+        room,
+        spare,
+        out,
+        at,
+    );
     let next = done.console;
     let end = byte(out, done.at, b'\n');
     Executed {

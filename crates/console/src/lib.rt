@@ -1,13 +1,9 @@
 // The console: a line of the protocol in, its answer out.
 use am9517::Controller;
 
-mod answers;
-mod arrays;
-mod chip;
 mod command;
 mod forms;
 mod script;
-mod services;
 
 pub use script::Fed;
 pub use script::Session;

@@ -1,8 +1,8 @@
 // A script comes in parts of any size: its lines are cut out of them and executed.
 use crate::Console;
-use crate::answers::error;
 use crate::command::Executed;
 use crate::command::execute;
+use answers::error;
 use text::line::end_of;
 use text::line::said;
 use text::page::byte;
@@ -127,7 +127,16 @@ pub fn feed(
             taken,
         };
     }
-    let done = answer(console, &line[0..length], memory, queue, room, spare, out, waiting);
+    let done = answer(
+        console,
+        &line[0..length],
+        memory,
+        queue,
+        room,
+        spare,
+        out,
+        waiting,
+    );
     let next = done.console;
     let begun = Session {
         console: next,

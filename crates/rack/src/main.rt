@@ -138,7 +138,18 @@ fn run(
         }
         let before = now.session;
         ask(prompt, before.length);
-        now = read_once(fd, name, before, &mut part, line, memory, queue, room, spare, out);
+        now = read_once(
+            fd,
+            name,
+            before,
+            &mut part,
+            line,
+            memory,
+            queue,
+            room,
+            spare,
+            out,
+        );
     }
     // the last line may lack its newline
     let last = now.session;

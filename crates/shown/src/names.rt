@@ -72,13 +72,37 @@ pub(crate) fn mode_name(out: &mut [u8], at: usize, mode: u8) -> usize {
 }
 
 fn order_and_timing(out: &mut [u8], at: usize, command: u8) -> usize {
-    let next = either(out, at, bit(command, 4) == 1, b"rotating, ", b"fixed order, ");
-    either(out, next, bit(command, 3) == 1, b"compressed, ", b"normal timing, ")
+    let next = either(
+        out,
+        at,
+        bit(command, 4) == 1,
+        b"rotating, ",
+        b"fixed order, ",
+    );
+    either(
+        out,
+        next,
+        bit(command, 3) == 1,
+        b"compressed, ",
+        b"normal timing, ",
+    )
 }
 
 pub(crate) fn command_name(out: &mut [u8], at: usize, command: u8) -> usize {
     let next = hex_byte(out, at, command);
-    let next = either(out, next, bit(command, 2) == 1, b" disabled, ", b" enabled, ");
+    let next = either(
+        out,
+        next,
+        bit(command, 2) == 1,
+        b" disabled, ",
+        b" enabled, ",
+    );
     let next = order_and_timing(out, next, command);
-    either(out, next, bit(command, 6) == 1, b"DREQ active low", b"DREQ active high")
+    either(
+        out,
+        next,
+        bit(command, 6) == 1,
+        b"DREQ active low",
+        b"DREQ active high",
+    )
 }

@@ -60,12 +60,18 @@ fn set_row(out: &mut [u8], at: usize, c: Controller) -> usize {
     byte(out, next, b'\n')
 }
 
+fn temporary(out: &mut [u8], at: usize, b: u8) -> usize {
+    let next = text(out, at, b"    temporary ");
+    let next = hex_byte(out, next, b);
+    byte(out, next, b'\n')
+}
+
 fn other_row(out: &mut [u8], at: usize, c: Controller) -> usize {
     let next = text(out, at, b"lowest   ");
     let next = decimal(out, next, c.lowest as u64);
-    let next = text(out, next, b"    temporary ");
-    let next = hex_byte(out, next, c.temporary);
-    either(out, next, c.flip_flop == 1, b"    flip-flop 1\n", b"    flip-flop 0\n")
+    let next = text(out, next, b"    flip-flop ");
+    let next = decimal(out, next, c.flip_flop as u64);
+    temporary(out, next, c.temporary)
 }
 
 fn latch(out: &mut [u8], at: usize, c: Controller) -> usize {
@@ -94,11 +100,21 @@ fn service_rows(out: &mut [u8], at: usize, c: Controller) -> usize {
 
 fn range_row(out: &mut [u8], at: usize, c: Controller) -> usize {
     let valid = c.valid();
-    either(out, at, valid, b"ranges   kept\n", b"ranges   broken: operations are refused by 1\n")
+    either(
+        out,
+        at,
+        valid,
+        b"ranges   kept\n",
+        b"ranges   broken: operations are refused by 1\n",
+    )
 }
 
 pub fn show(c: Controller, out: &mut [u8], at: usize) -> usize {
-    let next = text(out, at, b"         address       count\nchannel  base current  base current  mode\n");
+    let next = text(
+        out,
+        at,
+        b"         address       count\nchannel  base current  base current  mode\n",
+    );
     let next = channel_rows(out, next, c);
     let next = command_rows(out, next, c.command);
     let next = service_rows(out, next, c);

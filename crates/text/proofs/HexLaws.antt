@@ -38,8 +38,13 @@ module _ (p r : Page) (s : List ℕ) (i : ℕ) where
   pub hex-turn : (m q : Page) → i < length s → m ≡ putByte p (glyph (getD s i 0 / 16)) → q ≡ putByte m (glyph (getD s i 0 % 16))
       → put p (hexText (drop i s)) ≡ r → put q (hexText (drop (i + 1) s)) ≡ r
   hex-turn m q h d e was =
-      rw (e, d, ← (put-next (putByte p (glyph (getD s i 0 / 16))) (glyph (getD s i 0 % 16)) (hexText (drop (i + 1) s))),
-        ← (put-next p (glyph (getD s i 0 / 16)) (glyph (getD s i 0 % 16) ∷ hexText (drop (i + 1) s))), ← (hex-next s i h)) was
+      rw (
+        e,
+        d,
+        ← (put-next (putByte p (glyph (getD s i 0 / 16))) (glyph (getD s i 0 % 16)) (hexText (drop (i + 1) s))),
+        ← (put-next p (glyph (getD s i 0 / 16)) (glyph (getD s i 0 % 16) ∷ hexText (drop (i + 1) s))),
+        ← (hex-next s i h),
+      ) was
 
   pub hex-end : length s ≤ i → put p (hexText (drop i s)) ≡ r → p ≡ r
   hex-end h was = sym (put-none p) ∙ rw (drop-end s i h, hex-none) at was
@@ -55,3 +60,10 @@ module _ (p r : Page) (s : List ℕ) (i : ℕ) where
 
   pub bytes-end : 1 ≤ i → length s ≤ i → put p (bytesIn (drop (i - 1) s)) ≡ r → p ≡ r
   bytes-end k h was = sym (put-none p) ∙ rw (bytes-short (drop (i - 1) s) (omega (arith, length-drop (i - 1) s))) at was
+
+-- two digits a byte
+pub bytes-length : (xs : List ℕ) → length (bytesIn xs) ≡ length xs / 2
+unfolding bytesIn
+bytes-length [] = refl
+bytes-length (x ∷ []) = refl
+bytes-length (x ∷ y ∷ rest) = omega (arith, bytes-length rest)

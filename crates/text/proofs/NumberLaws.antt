@@ -143,6 +143,7 @@ digits-enough = by-tenths (λ (f n : ℕ). (g : ℕ) → n < g → digitsIn 10 f
     small : (f n : ℕ) → n < 10 → (g : ℕ) → n < g → digitsIn 10 (suc f) n ≡ digitsIn 10 g n
     small f n h zero l = absurd (omega arith)
     small f n h (suc g) l = digits-small f n h ∙ sym (digits-small g n h)
+
     more : (f n : ℕ) → 10 ≤ n → ((g : ℕ) → n / 10 < g → digitsIn 10 f (n / 10) ≡ digitsIn 10 g (n / 10)) → (g : ℕ) → n < g → digitsIn 10 (suc f) n ≡ digitsIn 10 g n
     more f n h next zero l = absurd (omega arith)
     more f n h next (suc g) l =
@@ -188,6 +189,7 @@ value-digits = by-tenths (λ (f n : ℕ). valueFrom 10 0 (digitsIn 10 f n) ≡ n
   where
     small : (f n : ℕ) → n < 10 → valueFrom 10 0 (digitsIn 10 (suc f) n) ≡ n
     small f n h = ap (valueFrom 10 0) (digits-small f n h) ∙ value-append 10 0 [] (glyph n) ∙ omega (arith, value-none 10 0, digit-of-glyph n (omega arith))
+
     more : (f n : ℕ) → 10 ≤ n → valueFrom 10 0 (digitsIn 10 f (n / 10)) ≡ n / 10 → valueFrom 10 0 (digitsIn 10 (suc f) n) ≡ n
     more f n h next =
         ap (valueFrom 10 0) (digits-more f n h)
@@ -199,6 +201,7 @@ all-digits = by-tenths (λ (f n : ℕ). allDigits 10 (digitsIn 10 f n) ≡ true)
   where
     small : (f n : ℕ) → n < 10 → allDigits 10 (digitsIn 10 (suc f) n) ≡ true
     small f n h = ap (allDigits 10) (digits-small f n h) ∙ digits-append 10 [] (glyph n) (digits-none 10) (omega (arith, digit-of-glyph n (omega arith)))
+
     more : (f n : ℕ) → 10 ≤ n → allDigits 10 (digitsIn 10 f (n / 10)) ≡ true → allDigits 10 (digitsIn 10 (suc f) n) ≡ true
     more f n h next =
         ap (allDigits 10) (digits-more f n h)
@@ -209,6 +212,7 @@ some-digit = by-tenths (λ (f n : ℕ). 1 ≤ length (digitsIn 10 f n)) small mo
   where
     small : (f n : ℕ) → n < 10 → 1 ≤ length (digitsIn 10 (suc f) n)
     small f n h = rw (digits-small f n h) (omega arith)
+
     more : (f n : ℕ) → 10 ≤ n → 1 ≤ length (digitsIn 10 f (n / 10)) → 1 ≤ length (digitsIn 10 (suc f) n)
     more f n h next = rw (digits-more f n h, length-append (digitsIn 10 f (n / 10)) (glyph (n % 10) ∷ [])) (omega arith)
 
@@ -251,3 +255,27 @@ number-of-byte b most h m =
 pub prefixed-two : (s : List ℕ) → prefixed s ≡ true → 2 ≤ length s
 unfolding prefixed
 prefixed-two s e = leb-true _ _ (both _ _ e .left)
+
+-- a number that a word says fits its place
+fits-when : (t : Bool) (v n most : ℕ) → (t ≡ true → v ≤ most) → when t (Value v) Bad ≡ Value n → n ≤ most
+unfolding when
+fits-when true v n most h e = let s : v ≡ n = cc in omega (arith, h refl)
+fits-when false v n most h e = let z : _≡_ {A = ℕ} 0 1 = cc in absurd (omega arith)
+
+fits-from : (base most v n : ℕ) (ds : List ℕ) → numberFrom base most v ds ≡ Value n → n ≤ most
+unfolding numberFrom
+fits-from base most v n ds e = fits-when _ _ n most (λ b. leb-true _ _ (both _ _ b .right)) e
+
+fits-in : (base most n : ℕ) (ds : List ℕ) (t : Bool) → when t Bad (numberFrom base most 0 ds) ≡ Value n → n ≤ most
+unfolding when
+fits-in base most n ds true e = let z : _≡_ {A = ℕ} 0 1 = cc in absurd (omega arith)
+fits-in base most n ds false e = fits-from base most 0 n ds e
+
+fits-either : (most n : ℕ) (a b : Number) (t : Bool) → (a ≡ Value n → n ≤ most) → (b ≡ Value n → n ≤ most) → when t a b ≡ Value n → n ≤ most
+unfolding when
+fits-either most n a b true f g e = f e
+fits-either most n a b false f g e = g e
+
+pub number-fits : (most n : ℕ) (s : List ℕ) → numberOf most s ≡ Value n → n ≤ most
+unfolding numberOf numberIn
+number-fits most n s e = fits-either most n _ _ _ (fits-in 16 most n _ _) (fits-in 10 most n _ _) e

@@ -3,11 +3,11 @@
 use Prim.Native.Nat.{ℕ, zero, suc, _+_, _-_, _≤_, _<_}
 use mathlib.Core.Path.{_≡_, refl, sym, ap, _∙_}
 use mathlib.Core.Bool.{Bool, true, false, _&&_}
-use mathlib.Core.List.{List, [], _∷_, _++_}
+use mathlib.Core.List.{List, [], _∷_, _++_, append-nil}
 use native.Mathlib.Omega.{arith}
 use native.Mathlib.Numerals.{add-one, sub-one}
 use lib.ListN.{length, getD, take, drop, set, replicate, length-set, drop-of-length-le}
-use lib.Seq.{drop-cons, sets, sets-eq}
+use lib.Seq.{drop-cons, sets, sets-eq, take-append-seam}
 use lib.Dec.{eqb}
 use borrow.Author.Tests.{lt-ltb, eq-eqb, ne-eqb}
 use Rattle.words.specs.Choice.{when}
@@ -104,3 +104,16 @@ module _ (a b : List ℕ) where
 
     pub same-end : length a ≤ i → length b ≤ i → same (drop i a) (drop i b) ≡ r → true ≡ r
     same-end h l was = same-none ∙ rw (drop-end a i h, drop-end b i l) at was
+
+-- Bytes put at a slice's front stand there, and are the whole slice if they have its length.
+module _ (bs xs ys : List ℕ) (r : ℕ) (e : page ys r ≡ put (page xs 0) bs) where
+  pub stands-in-front : length bs ≤ length xs → take (length bs) ys ≡ bs
+  stands-in-front h =
+      let all : ys ≡ bs ++ drop (0 + length bs) xs = ap (λ (p : Page). p .bytes) (e ∙ put-room bs xs 0 (omega arith)) in
+      rw all (take-append-seam bs (drop (0 + length bs) xs))
+
+  pub stands-whole : length bs ≡ length xs → ys ≡ bs
+  stands-whole h =
+      let none : drop (0 + length bs) xs ≡ [] = drop-of-length-le xs {i = 0 + length bs} (omega arith) in
+      let all : ys ≡ bs ++ drop (0 + length bs) xs = ap (λ (p : Page). p .bytes) (e ∙ put-room bs xs 0 (omega arith)) in
+      all ∙ ap (λ (l : List ℕ). bs ++ l) none ∙ append-nil bs
