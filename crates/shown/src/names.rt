@@ -1,4 +1,5 @@
 // Single things in words: a byte, a set of channels, the parts of a mode and of a command.
+use text::page::byte;
 use text::page::hex;
 use text::page::text;
 use words::bits::bit;
@@ -31,18 +32,22 @@ pub(crate) fn base_and_current(out: &mut [u8], at: usize, base: u16, current: u1
     text(out, next, b"     ")
 }
 
-fn member(out: &mut [u8], at: usize, set: u8, n: usize, name: &[u8]) -> usize {
-    either(out, at, bit(set, n) == 1, name, b"")
+// The byte where the test holds.
+fn byte_if(out: &mut [u8], at: usize, test: bool, b: u8) -> usize {
+    if test {
+        return byte(out, at, b);
+    }
+    at
 }
 
 // The channels of a set of four bits, or -.
 pub(crate) fn channels(out: &mut [u8], at: usize, name: &[u8], set: u8) -> usize {
     let next = text(out, at, name);
-    let next = member(out, next, set, 0, b"0");
-    let next = member(out, next, set, 1, b"1");
-    let next = member(out, next, set, 2, b"2");
-    let next = member(out, next, set, 3, b"3");
-    either(out, next, set % 16 == 0, b"-", b"")
+    let next = byte_if(out, next, bit(set, 0) == 1, b'0');
+    let next = byte_if(out, next, bit(set, 1) == 1, b'1');
+    let next = byte_if(out, next, bit(set, 2) == 1, b'2');
+    let next = byte_if(out, next, bit(set, 3) == 1, b'3');
+    byte_if(out, next, set % 16 == 0, b'-')
 }
 
 fn service_name(out: &mut [u8], at: usize, mode: u8) -> usize {

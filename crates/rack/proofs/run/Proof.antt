@@ -6,7 +6,7 @@ use Rattle.rack.proofs.run.Statement.{statement}
 use Rattle.rack.proofs.run.Tie as tie
 use Rattle.rack.proofs.run.Reads as reads
 use Rattle.rack.proofs.run.Lts as lts
-use Rattle.console.proofs.script.Session.start.Reads as start-reads
+use Rattle.console.proofs.Session.start.Reads as start-reads
 use Rattle.console.proofs.feed.Reads as feed-reads
 use Rattle.io.proofs.large_buffer.Reads as large-buffer-reads
 use Rattle.rack.proofs.ask.Reads as ask-reads

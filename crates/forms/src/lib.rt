@@ -3,7 +3,7 @@ use text::line::same;
 use words::choice::when;
 ghost use mathlib.Core.Path.{_≡_};
 ghost use Rattle.words.specs.Grounds.{first};
-ghost use Rattle.console.specs.Commands.{isForm, controllerForms, arrayForms, otherForms, formOf};
+ghost use Rattle.forms.specs.Commands.{isForm, controllerForms, arrayForms, otherForms, formOf};
 
 fn is_form(name: &[u8], n: usize, word: &[u8], k: usize) -> bool
     ensures { λ r. ⌜ r ≡ isForm (now (name .entry)) n (now (word .entry)) k ⌝ }
@@ -49,7 +49,7 @@ fn other_form(name: &[u8], n: usize, other: u8) -> u8
     when(is_form(name, n, b"run", 2), 18, no)
 }
 
-pub(crate) fn form_of(name: &[u8], n: usize) -> u8
+pub fn form_of(name: &[u8], n: usize) -> u8
     ensures { λ r. ⌜ r ≡ formOf (now (name .entry)) n ⌝ }
 {
     let no = other_form(name, n, 0);

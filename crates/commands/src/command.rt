@@ -1,6 +1,5 @@
 // One line: what it does to what the console holds, and its answer.
 use crate::Console;
-use crate::forms::form_of;
 use answers::error;
 use arrays::feed;
 use arrays::fill;
@@ -9,6 +8,7 @@ use arrays::make_room;
 use arrays::peek;
 use arrays::poke;
 use control::on_controller;
+use forms::form_of;
 use runs::Served;
 use runs::go_round;
 use runs::run;
