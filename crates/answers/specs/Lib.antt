@@ -1,0 +1,2 @@
+-- The answers of the protocol's page.
+pub mod Answers

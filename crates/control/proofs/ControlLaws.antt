@@ -1,0 +1,24 @@
+-- Laws of what the commands on the controller answer.
+-- Assumes nothing.
+use Prim.Native.Nat.{ℕ}
+use mathlib.Core.Path.{_≡_, ap, _∙_}
+use mathlib.Core.List.{List}
+use native.Mathlib.Omega.{arith}
+use lib.ListN.{length, replicate, length-replicate}
+use Rattle.am9517.specs.declared.Controller.{Controller}
+use Rattle.am9517.specs.declared.Answer.{Answer}
+use Rattle.sheet.specs.Sheet.{Stored, stored, sheetWriteOf}
+use Rattle.text.specs.Text.{page, put}
+use Rattle.text.proofs.TextLaws.{stands-whole}
+use Rattle.control.specs.Control.{storedText, sheetText}
+
+-- a sheet written into n bytes 0xEE
+pub sheet-told : (c : Controller) (n r : ℕ) (slice filled written : List ℕ) (a : Answer) → length slice ≡ n
+    → page filled r ≡ put (page slice 0) (replicate n 238) → stored a written ≡ sheetWriteOf c filled
+    → storedText a written ≡ sheetText c n
+unfolding sheetText
+sheet-told c n r slice filled written a l e w =
+    let all : filled ≡ replicate n 238 = stands-whole (replicate n 238) slice filled r e (omega (arith, length-replicate {A = ℕ} n 238)) in
+    let s = sheetWriteOf c (replicate n 238) in
+    let same : stored a written ≡ s = w ∙ ap (sheetWriteOf c) all in
+    ap (λ (x : Stored). storedText (x .answer) (x .bytes)) same

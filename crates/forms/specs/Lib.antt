@@ -1,0 +1,2 @@
+-- The commands of the protocol's page.
+pub mod Commands

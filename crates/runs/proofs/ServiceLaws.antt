@@ -1,0 +1,22 @@
+-- Laws of what run and round answer.
+-- Assumes nothing.
+use Prim.Native.Nat.{ℕ}
+use mathlib.Core.Path.{_≡_, ap}
+use mathlib.Core.List.{List}
+use Rattle.am9517.specs.declared.Controller.{Controller}
+use Rattle.service.specs.Answers.{Given, given}
+use Rattle.service.specs.declared.Ran.{Ran}
+use Rattle.round.specs.Answers.{RoundGiven, roundGiven}
+use Rattle.round.specs.declared.Rounded.{Rounded}
+use Rattle.text.specs.Text.{Page, put}
+use Rattle.runs.specs.Services.{Service, ranText, runService, roundedText, roundService}
+
+pub ran-so : (r : Ran) (m room : List ℕ) (p q : Page) (g : Given) → given r m room ≡ g → q ≡ put p (ranText r)
+    → _≡_ {A = Service} (record { controller = r .controller; used = r .used; written = r .written; memory = m; room = room; page = q }) (runService p g)
+unfolding runService
+ran-so r m room p q g e t = rw (← e, t)
+
+pub rounded-so : (r : Rounded) (m room : List ℕ) (p q : Page) (g : RoundGiven) → roundGiven r m room ≡ g → q ≡ put p (roundedText r)
+    → _≡_ {A = Service} (record { controller = r .controller; used = r .used; written = r .written; memory = m; room = room; page = q }) (roundService p g)
+unfolding roundService
+rounded-so r m room p q g e t = rw (← e, t)

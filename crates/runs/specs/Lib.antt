@@ -1,0 +1,2 @@
+-- The commands run and round, from the protocol's page.
+pub mod Services

@@ -1,0 +1,5 @@
+-- Laws about the definitions of specs/.
+pub mod TextLaws
+pub mod NumberLaws
+pub mod HexLaws
+pub mod LineLaws
