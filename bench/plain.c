@@ -14,16 +14,17 @@ struct controller {
 
 enum reason { ENDED, DROPPED, CASCADE, LIMIT, SHORT, DONE, QUIET };
 
-/* What an operation told: the number of its refusal or 0, and what was counted. */
-struct told {
-    u32 refusal;
-    enum reason why;
+/* What was counted; where bytes used and written are, too, the places of the next ones. */
+struct counts {
     u64 transfers, states;
     usize used, written;
 };
 
-struct rounded {
-    struct told total;
+/* What a run or a round told: the number of its refusal or 0, else why it stopped. */
+struct told {
+    u32 refusal;
+    enum reason why;
+    struct counts counts;
     u32 services[4];
 };
 
@@ -203,110 +204,103 @@ static int counted_down(struct controller *c, int copies, u32 n, int eop)
     return 1;
 }
 
-static struct told copy_service(struct controller *c, struct lent l, u64 limit, u64 eop_at)
+static enum reason copy_service(struct controller *c, u8 *memory, u64 limit, u64 eop_at, struct counts *total)
 {
     struct channel *from = &c->channels[0], *to = &c->channels[1];
-    struct told t = {0};
-    for (;;) {
-        if (t.transfers == limit) {
-            t.why = LIMIT;
-            return t;
-        }
-        c->temporary = l.memory[from->address];
-        l.memory[to->address] = c->temporary;
+    u64 made = 0;
+    int over = 0;
+    while (!over && made != limit) {
+        c->temporary = memory[from->address];
+        memory[to->address] = c->temporary;
         if (!bit(c->command, 1)) from->address = stepped(from->address, from->mode);
         to->address = stepped(to->address, to->mode);
-        t.states += 8;
-        t.transfers++;
-        if (counted_down(c, 1, 1, t.transfers == eop_at)) return t;
+        made++;
+        over = counted_down(c, 1, 1, made == eop_at);
     }
+    total->transfers += made;
+    total->states += 8 * made;
+    return over ? ENDED : LIMIT;
 }
 
-static struct told device_service(struct controller *c, struct lent l, u64 limit, u64 eop_at)
+/* A transfer's working states; the upper address byte is latched where it is new. */
+static u32 cost(struct controller *c, u16 address)
+{
+    u32 states = bit(c->command, 3) ? 2 : 3;
+    if (c->latch_full && c->latch == address >> 8) return states;
+    c->latch_full = 1;
+    c->latch = (u8)(address >> 8);
+    return states + 1;
+}
+
+static enum reason device_service(struct controller *c, struct lent l, u64 limit, u64 eop_at, struct counts *total)
 {
     u32 n = c->serving;
     struct channel *ch = &c->channels[n];
     int kind = ch->mode >> 6, way = ch->mode >> 2 & 3;
-    struct told t = {0};
+    struct counts t = *total;
+    u64 made = 0;
+    enum reason why = ENDED;
     for (;;) {
         if ((kind == 0 || kind == 3) && !active(c, n)) {
             end_service(c);
-            t.why = DROPPED;
-            return t;
+            why = DROPPED;
+            break;
         }
-        if (kind == 3) t.why = CASCADE;
-        else if (t.transfers == limit) t.why = LIMIT;
-        else if ((way == 1 && t.used == l.device_length) || (way == 2 && t.written == l.room_length)) t.why = SHORT;
-        if (t.why != ENDED) return t;
+        if (kind == 3) { why = CASCADE; break; }
+        if (made == limit) { why = LIMIT; break; }
+        if (way == 1 && t.used == l.device_length) { why = SHORT; break; }
+        if (way == 2 && t.written == l.room_length) { why = SHORT; break; }
         u16 address = ch->address;
-        t.states += bit(c->command, 3) ? 2 : 3;
-        if (!c->latch_full || c->latch != address >> 8) {
-            t.states++;
-            c->latch_full = 1;
-            c->latch = (u8)(address >> 8);
-        }
+        t.states += cost(c, address);
         if (way == 1) l.memory[address] = l.device[t.used++];
         if (way == 2) l.room[t.written++] = l.memory[address];
         ch->address = stepped(address, ch->mode);
-        t.transfers++;
-        if (counted_down(c, 0, n, t.transfers == eop_at)) return t;
+        made++;
+        if (counted_down(c, 0, n, made == eop_at)) break;
         if (kind == 1) {
             end_service(c);
-            return t;
+            break;
         }
     }
+    t.transfers += made;
+    *total = t;
+    return why;
 }
 
-static struct told serve(struct controller *c, struct lent l, u64 limit, u64 eop_at)
+static enum reason serve(struct controller *c, struct lent l, u64 limit, u64 eop_at, struct counts *total)
 {
-    if (bit(c->command, 0) && c->serving == 0) return copy_service(c, l, limit, eop_at);
-    return device_service(c, l, limit, eop_at);
+    if (bit(c->command, 0) && c->serving == 0) return copy_service(c, l.memory, limit, eop_at, total);
+    return device_service(c, l, limit, eop_at, total);
 }
 
 static struct told run(struct controller *c, struct lent l, u64 limit, u64 eop_at)
 {
     struct told t = {0};
     t.refusal = !valid(c) ? 1 : l.memory_length != 65536 ? 7 : !c->in_service ? 8 : 0;
-    return t.refusal ? t : serve(c, l, limit, eop_at);
+    if (t.refusal == 0) t.why = serve(c, l, limit, eop_at, &t.counts);
+    return t;
 }
 
 /* ---- a round ---- */
 
-static struct lent rest_of(struct lent l, const struct told *sum)
+static struct told round_of(struct controller *c, struct lent l, u32 k)
 {
-    l.device += sum->used;
-    l.device_length -= sum->used;
-    l.room += sum->written;
-    l.room_length -= sum->written;
-    return l;
-}
-
-static struct rounded round_of(struct controller *c, struct lent l, u32 k)
-{
-    struct rounded r = {0};
-    struct told *sum = &r.total;
-    sum->refusal = !valid(c) ? 1 : k > 4096 ? 2 : l.memory_length != 65536 ? 7 : c->in_service ? 3 : 0;
-    if (sum->refusal != 0) return r;
+    struct told t = {0};
+    t.refusal = !valid(c) ? 1 : k > 4096 ? 2 : l.memory_length != 65536 ? 7 : c->in_service ? 3 : 0;
+    if (t.refusal != 0) return t;
     for (u32 begun = 0; begun < k; begun++) {
         int n = picked(c);
         if (n < 0) {
-            sum->why = QUIET;
-            return r;
+            t.why = QUIET;
+            return t;
         }
         grant(c, n);
-        r.services[n]++;
-        struct told t = serve(c, rest_of(l, sum), 65536, 0);
-        sum->transfers += t.transfers;
-        sum->states += t.states;
-        sum->used += t.used;
-        sum->written += t.written;
-        if (t.why != ENDED) {
-            sum->why = t.why;
-            return r;
-        }
+        t.services[n]++;
+        t.why = serve(c, l, 65536, 0, &t.counts);
+        if (t.why != ENDED) return t;
     }
-    sum->why = DONE;
-    return r;
+    t.why = DONE;
+    return t;
 }
 
 /* ---- sheets ---- */
@@ -367,13 +361,10 @@ static void write_sheet(const struct controller *c, u8 *sheet)
 
 static u64 mixed(const struct told *t)
 {
+    const struct counts *n = &t->counts;
     u64 number = t->refusal ? t->refusal + 256 : (u64)t->why;
-    return number + t->transfers * 2 + t->used * 3 + t->written * 5 + t->states * 7;
-}
-
-static u64 begun(const struct rounded *r)
-{
-    return r->services[0] + r->services[1] * 2ul + r->services[2] * 3ul + r->services[3] * 4ul;
+    u64 begun = t->services[0] + t->services[1] * 2ul + t->services[2] * 3ul + t->services[3] * 4ul;
+    return number + begun + n->transfers * 2 + n->used * 3 + n->written * 5 + n->states * 7;
 }
 
 /* Each turn starts from one of two states, told by what the last turn gave, and stores all that it gives. */
@@ -415,7 +406,7 @@ u64 plain_run(u8 *first, usize first_length, const u8 *second, usize second_leng
 {
     struct lent l = {memory, memory_length, device, device_length, room, room_length};
     struct told told[2] = {0};
-    TURNS(told[i] = run(&c, l, limit, eop_at); last = told[i].states)
+    TURNS(told[i] = run(&c, l, limit, eop_at); last = told[i].counts.states)
     return mixed(&told[0]);
 }
 
@@ -423,7 +414,7 @@ u64 plain_round(u8 *first, usize first_length, const u8 *second, usize second_le
                 const u8 *device, usize device_length, u8 *room, usize room_length, u32 k, u64 times)
 {
     struct lent l = {memory, memory_length, device, device_length, room, room_length};
-    struct rounded told[2] = {0};
-    TURNS(told[i] = round_of(&c, l, k); last = told[i].total.states)
-    return mixed(&told[0].total) + begun(&told[0]);
+    struct told told[2] = {0};
+    TURNS(told[i] = round_of(&c, l, k); last = told[i].counts.states)
+    return mixed(&told[0]);
 }
