@@ -6,6 +6,8 @@ use mathlib.Core.List.{List}
 use lib.Dec.{leb, ltb}
 use Rattle.words.specs.Choice.{when, _and_}
 use Rattle.text.specs.Text.{Page, page}
+use Rattle.am9517.specs.declared.Controller.{Controller}
+use Rattle.arrays.specs.declared.Part.{Part}
 use Rattle.runs.specs.declared.Served.{Served}
 use Rattle.commands.specs.declared.Console.{Console}
 use Rattle.commands.specs.declared.holding.Executed.{Executed}
@@ -36,3 +38,27 @@ afterService c s =
       size = c .size;
       written = further (c .written) (s .written) (c .size);
     }
+
+-- the queue's part of its array, and the room's of its own
+abbrev pub queuePart : Executed → Part
+queuePart r = record { from = r .console .start; to = r .console .end; at = r .at }
+
+abbrev pub roomPart : Executed → Part
+roomPart r = record { from = r .console .written; to = r .console .size; at = r .at }
+
+-- a console that differs in its queue, its room, the bytes lent or its controller alone
+abbrev pub withQueue : Console → Executed → Console
+withQueue c r =
+    record { controller = c .controller; lent = c .lent; start = r .console .start; end = r .console .end; size = c .size; written = c .written }
+
+abbrev pub withRoom : Console → Executed → Console
+withRoom c r =
+    record { controller = c .controller; lent = c .lent; start = c .start; end = c .end; size = r .console .size; written = r .console .written }
+
+abbrev pub withLent : Console → ℕ → Console
+withLent c n =
+    record { controller = c .controller; lent = n; start = c .start; end = c .end; size = c .size; written = c .written }
+
+abbrev pub withController : Console → Controller → Console
+withController c next =
+    record { controller = next; lent = c .lent; start = c .start; end = c .end; size = c .size; written = c .written }

@@ -18,6 +18,10 @@ use text::line::word;
 use text::page::byte;
 ghost use Prim.Native.Nat.{_≤_};
 ghost use lib.ListN.{length};
+ghost use mathlib.Core.Path.{_≡_};
+ghost use Rattle.text.specs.Text.{page, put};
+ghost use Rattle.control.specs.Control.{replyTo};
+ghost use Rattle.commands.specs.Holding.{left, withController};
 
 // Commands 20 to 22.
 fn on_people(console: Console, form: u8, one: &[u8], out: &mut [u8], at: usize) -> Executed {
@@ -48,7 +52,9 @@ fn controlled(
     spare: &mut [u8],
     out: &mut [u8],
     at: usize,
-) -> Executed {
+) -> Executed
+    ensures { λ r. ⌜ left r (now (out .exit)) (withController console (replyTo form (console .controller) (now (one .entry)) (now (two .entry)) (length (now (spare .entry))) .controller)) (put (page (now (out .entry)) at) (replyTo form (console .controller) (now (one .entry)) (now (two .entry)) (length (now (spare .entry))) .text)) ⌝ }
+{
     let c = console.controller;
     let done = on_controller(c, form, one, two, spare, out, at);
     let controller = done.controller;

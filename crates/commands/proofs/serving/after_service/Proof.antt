@@ -1,5 +1,4 @@
 use mathlib.Core.Path.{refl}
-use native.Mathlib.Omega.{arith}
 use borrow.Author.Needs.{needs}
 use Rattle.commands.proofs.serving.after_service.Statement.{statement}
 use Rattle.commands.proofs.serving.after_service.Tie as tie
