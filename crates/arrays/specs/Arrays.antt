@@ -76,6 +76,11 @@ roomOf room p count byte =
     (λ (n : ℕ). numbered (numberOf 255 byte) (λ (b : ℕ). changed (replicate n b) (put p okText)) (changed room (put p errorText)))
     (changed room (put p errorText))
 
+-- "write position 0": of the room that is made; an error leaves the position
+abbrev pub positionOf : ℕ → List ℕ → List ℕ → ℕ
+positionOf written count byte =
+    numbered (numberOf 70000 count) (λ (n : ℕ). numbered (numberOf 255 byte) (λ (b : ℕ). 0) written) written
+
 -- A part of an array after a command that changes it: the queue from one place up to another, or the room with its write
 -- position; it holds what the command says, and the page has the answer.
 pub record Queued (r : Part) (array out : List ℕ) (c : Changed) : Type 0 where
@@ -83,7 +88,8 @@ pub record Queued (r : Part) (array out : List ℕ) (c : Changed) : Type 0 where
   pub ordered : r .from ≤ r .to
   pub inside : r .to ≤ length array
 
-pub record Roomed (r : Part) (array out : List ℕ) (c : Changed) : Type 0 where
+pub record Roomed (r : Part) (array out : List ℕ) (c : Changed) (position : ℕ) : Type 0 where
   pub holds : changed (take (r .to) array) (page out (r .at)) ≡ c
+  pub behind : r .from ≡ position
   pub ordered : r .from ≤ r .to
   pub inside : r .to ≤ length array

@@ -12,7 +12,7 @@ ghost use Prim.Native.Nat.{_+_, _-_, _≤_};
 ghost use lib.Dec.{leb};
 ghost use lib.ListN.{length, take, drop, replicate};
 ghost use Rattle.text.specs.Text.{page, put};
-ghost use Rattle.arrays.specs.Arrays.{lentOf, lentText, bytesAt, peekText, hasPlace, changed, pokeOf, held, appended, feedOf, fillOf, roomOf, Queued, Roomed};
+ghost use Rattle.arrays.specs.Arrays.{lentOf, lentText, bytesAt, peekText, hasPlace, changed, pokeOf, held, appended, feedOf, fillOf, roomOf, positionOf, Queued, Roomed};
 
 // A number that a command sets, and the place behind its answer.
 pub struct Moved {
@@ -247,7 +247,7 @@ pub fn make_room(
     at: usize,
 ) -> Part
     requires { ⌜ (written ≤ size) × (size ≤ length (now room)) × (70000 ≤ length (now room)) ⌝ }
-    ensures { λ r. ⌜ Roomed r (now (room .exit)) (now (out .exit)) (roomOf (take size (now (room .entry))) (page (now (out .entry)) at) (now (count .entry)) (now (byte .entry))) ⌝ }
+    ensures { λ r. ⌜ Roomed r (now (room .exit)) (now (out .exit)) (roomOf (take size (now (room .entry))) (page (now (out .entry)) at) (now (count .entry)) (now (byte .entry))) (positionOf written (now (count .entry)) (now (byte .entry))) ⌝ }
 {
     let length = number_of(count, 70000);
     let said = number_of(byte, 255);

@@ -1,17 +1,13 @@
 // One line: what it does to what the console holds, and its answer.
 use crate::Console;
-use answers::error;
-use arrays::feed;
-use arrays::fill;
-use arrays::lend;
-use arrays::make_room;
-use arrays::peek;
-use arrays::poke;
+use crate::device::on_device;
+use crate::device::on_memory;
+use crate::holding::Executed;
+use crate::holding::failed;
+use crate::holding::stands;
+use crate::serving::on_services;
 use control::on_controller;
 use forms::form_of;
-use runs::Served;
-use runs::go_round;
-use runs::run;
 use shown::help;
 use shown::help_refusals;
 use shown::show;
@@ -22,219 +18,10 @@ use text::line::word;
 use text::page::byte;
 ghost use Prim.Native.Nat.{_≤_};
 ghost use lib.ListN.{length};
-
-// What the console holds after a line, and the place behind its answer.
-pub struct Executed {
-    pub console: Console,
-    pub at: usize,
-}
-
-// A line that can't be done: nothing changed.
-fn failed(console: Console, out: &mut [u8], at: usize) -> Executed {
-    let next = error(out, at);
-    Executed { console, at: next }
-}
-
-fn fed(console: Console, queue: &mut [u8], one: &[u8], out: &mut [u8], at: usize) -> Executed {
-    let from = console.start;
-    let to = console.end;
-    if to < from {
-        return failed(console, out, at);
-    }
-    if queue.len() < to {
-        return failed(console, out, at);
-    }
-    if queue.len() < 70000 {
-        return failed(console, out, at);
-    }
-    let done = feed(queue, from, to, one, out, at);
-    let mut next = console;
-    next.start = done.from;
-    next.end = done.to;
-    Executed {
-        console: next,
-        at: done.at,
-    }
-}
-
-fn filled(
-    console: Console,
-    queue: &mut [u8],
-    one: &[u8],
-    two: &[u8],
-    out: &mut [u8],
-    at: usize,
-) -> Executed {
-    let from = console.start;
-    let to = console.end;
-    if to < from {
-        return failed(console, out, at);
-    }
-    if queue.len() < to {
-        return failed(console, out, at);
-    }
-    if queue.len() < 70000 {
-        return failed(console, out, at);
-    }
-    let done = fill(queue, from, to, one, two, out, at);
-    let mut next = console;
-    next.start = done.from;
-    next.end = done.to;
-    Executed {
-        console: next,
-        at: done.at,
-    }
-}
-
-fn roomed(
-    console: Console,
-    room: &mut [u8],
-    one: &[u8],
-    two: &[u8],
-    out: &mut [u8],
-    at: usize,
-) -> Executed {
-    let written = console.written;
-    let size = console.size;
-    if size < written {
-        return failed(console, out, at);
-    }
-    if room.len() < size {
-        return failed(console, out, at);
-    }
-    if room.len() < 70000 {
-        return failed(console, out, at);
-    }
-    let done = make_room(room, written, size, one, two, out, at);
-    let mut next = console;
-    next.written = done.from;
-    next.size = done.to;
-    Executed {
-        console: next,
-        at: done.at,
-    }
-}
-
-fn shown(
-    console: Console,
-    room: &[u8],
-    one: &[u8],
-    two: &[u8],
-    out: &mut [u8],
-    at: usize,
-) -> Executed {
-    let size = console.size;
-    if room.len() < size {
-        return failed(console, out, at);
-    }
-    let next = peek(&room[0..size], one, two, out, at);
-    Executed { console, at: next }
-}
-
-// Commands 11 to 17.
-fn on_arrays(
-    console: Console,
-    form: u8,
-    one: &[u8],
-    two: &[u8],
-    memory: &mut [u8],
-    queue: &mut [u8],
-    room: &mut [u8],
-    out: &mut [u8],
-    at: usize,
-) -> Executed {
-    match form {
-        11 => {
-            let done = lend(console.lent, one, out, at);
-            let mut next = console;
-            next.lent = done.value;
-            Executed {
-                console: next,
-                at: done.at,
-            }
-        }
-        12 => {
-            let next = poke(memory, one, two, out, at);
-            Executed { console, at: next }
-        }
-        13 => {
-            let next = peek(memory, one, two, out, at);
-            Executed { console, at: next }
-        }
-        14 => fed(console, queue, one, out, at),
-        15 => filled(console, queue, one, two, out, at),
-        16 => roomed(console, room, one, two, out, at),
-        _ => shown(console, room, one, two, out, at),
-    }
-}
-
-// A place n further on, and not past the last.
-fn further(from: usize, n: usize, last: usize) -> usize {
-    if last < from {
-        return from;
-    }
-    if last - from < n {
-        return last;
-    }
-    from + n
-}
-
-// The console after a service: the bytes used have left the queue, and those written are behind the write position.
-fn after_service(console: Console, served: Served) -> Executed {
-    let controller = served.controller;
-    let mut next = console;
-    next.start = further(console.start, served.used, console.end);
-    next.written = further(console.written, served.written, console.size);
-    next.controller = controller;
-    Executed {
-        console: next,
-        at: served.at,
-    }
-}
-
-// Commands 18 and 19: what is lent are the memory's front, the queue, and the room behind its write position.
-fn on_services(
-    console: Console,
-    form: u8,
-    one: &[u8],
-    two: &[u8],
-    memory: &mut [u8],
-    queue: &[u8],
-    room: &mut [u8],
-    out: &mut [u8],
-    at: usize,
-) -> Executed {
-    let lent = console.lent;
-    let from = console.start;
-    let to = console.end;
-    let written = console.written;
-    let size = console.size;
-    if memory.len() < lent {
-        return failed(console, out, at);
-    }
-    if queue.len() < to {
-        return failed(console, out, at);
-    }
-    if to < from {
-        return failed(console, out, at);
-    }
-    if room.len() < size {
-        return failed(console, out, at);
-    }
-    if size < written {
-        return failed(console, out, at);
-    }
-    let c = console.controller;
-    let front = &mut memory[0..lent];
-    let device = &queue[from..to];
-    let rest = &mut room[written..size];
-    if form == 18 {
-        let done = run(c, front, device, rest, one, two, out, at);
-        return after_service(console, done);
-    }
-    let done = go_round(c, front, device, rest, one, out, at);
-    after_service(console, done)
-}
+ghost use mathlib.Core.Path.{_≡_};
+ghost use Rattle.text.specs.Text.{page, put};
+ghost use Rattle.control.specs.Control.{replyTo};
+ghost use Rattle.commands.specs.Holding.{left, withController};
 
 // Commands 20 to 22.
 fn on_people(console: Console, form: u8, one: &[u8], out: &mut [u8], at: usize) -> Executed {
@@ -256,6 +43,29 @@ fn on_people(console: Console, form: u8, one: &[u8], out: &mut [u8], at: usize) 
     failed(console, out, at)
 }
 
+// Commands 1 to 10.
+fn controlled(
+    console: Console,
+    form: u8,
+    one: &[u8],
+    two: &[u8],
+    spare: &mut [u8],
+    out: &mut [u8],
+    at: usize,
+) -> Executed
+    ensures { λ r. ⌜ left r (now (out .exit)) (withController console (replyTo form (console .controller) (now (one .entry)) (now (two .entry)) (length (now (spare .entry))) .controller)) (put (page (now (out .entry)) at) (replyTo form (console .controller) (now (one .entry)) (now (two .entry)) (length (now (spare .entry))) .text)) ⌝ }
+{
+    let c = console.controller;
+    let done = on_controller(c, form, one, two, spare, out, at);
+    let controller = done.controller;
+    let mut next = console;
+    next.controller = controller;
+    Executed {
+        console: next,
+        at: done.at,
+    }
+}
+
 fn perform(
     console: Console,
     form: u8,
@@ -267,28 +77,17 @@ fn perform(
     spare: &mut [u8],
     out: &mut [u8],
     at: usize,
-) -> Executed {
-    if form == 0 {
-        return failed(console, out, at);
+) -> Executed
+    requires { ⌜ (console .lent ≤ length (now memory)) × (console .start ≤ console .end) × (console .end ≤ length (now queue)) × (70000 ≤ length (now queue)) × (console .written ≤ console .size) × (console .size ≤ length (now room)) × (70000 ≤ length (now room)) ⌝ }
+{
+    match form {
+        0 => failed(console, out, at),
+        1..=10 => controlled(console, form, one, two, spare, out, at),
+        11..=13 => on_memory(console, form, one, two, memory, out, at),
+        14..=17 => on_device(console, form, one, two, queue, room, out, at),
+        18..=19 => on_services(console, form, one, two, memory, queue, room, out, at),
+        _ => on_people(console, form, one, out, at),
     }
-    if form <= 10 {
-        let c = console.controller;
-        let done = on_controller(c, form, one, two, spare, out, at);
-        let controller = done.controller;
-        let mut next = console;
-        next.controller = controller;
-        return Executed {
-            console: next,
-            at: done.at,
-        };
-    }
-    if form <= 17 {
-        return on_arrays(console, form, one, two, memory, queue, room, out, at);
-    }
-    if form <= 19 {
-        return on_services(console, form, one, two, memory, queue, room, out, at);
-    }
-    on_people(console, form, one, out, at)
 }
 
 // 1 where there is a word.
@@ -310,6 +109,9 @@ pub fn execute(
     out: &mut [u8],
     at: usize,
 ) -> Executed {
+    if !stands(console, memory.len(), queue.len(), room.len()) {
+        return failed(console, out, at);
+    }
     let name = word(line, 0);
     let name_from = name.from;
     let name_to = name.to;

@@ -2,9 +2,12 @@
 use am9517::Controller;
 
 mod command;
+mod device;
+mod holding;
+mod serving;
 
-pub use command::Executed;
 pub use command::execute;
+pub use holding::Executed;
 
 // What the console holds beside its arrays: the controller; how many bytes of memory are lent; where the queue begins and
 // ends in its array; the room's size and its write position.

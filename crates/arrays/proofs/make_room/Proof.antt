@@ -3,7 +3,7 @@ use Rattle.text.proofs.NumberLaws.{number-fits}
 use Rattle.arrays.specs.Arrays.{changed}
 use Rattle.answers.specs.Answers.{numbered}
 use lib.ListN.{length, take, replicate, length-replicate}
-use mathlib.Core.Path.{_≡_, sym, ap, _∙_}
+use mathlib.Core.Path.{_≡_, refl, sym, ap, _∙_}
 use Prim.Native.Nat.{ℕ, _≤_}
 use native.Mathlib.Omega.{arith}
 use borrow.Author.Needs.{needs}
@@ -84,7 +84,7 @@ returns c = let n = c .before .before .before .before .before .before .before .b
     let fits : n ≤ 70000 = number-fits 70000 n _ (sym (c .before .before .before .before .before .before .before .before .before .before .before .before .before .before .before .number-of .ensures) ∙ c .before .before .before .before .before .before .before .before .before .before .before .before .length .given .1) in
     let size : length (replicate n (c .before .before .before .before .before .before .before .before .before .said .given .0 .0)) ≡ n = length-replicate {A = ℕ} n (c .before .before .before .before .before .before .before .before .before .said .given .0 .0) in
     let front : take n (c .before .before .before .before .before .before .copies .last .0) ≡ replicate n (c .before .before .before .before .before .before .before .before .before .said .given .0 .0) = ap (λ (k : ℕ). take k (c .before .before .before .before .before .before .copies .last .0)) (sym size) ∙ stands-in-front _ room _ _ (c .before .before .before .before .before .before .copies .ensures) (omega arith) in
-    record { holds = simp (sym (c .before .before .before .before .before .before .before .before .before .before .before .before .before .before .before .number-of .ensures) ∙ c .before .before .before .before .before .before .before .before .before .before .before .before .length .given .1, sym (c .before .before .before .before .before .before .before .before .before .before .before .before .before .before .number-of2 .ensures) ∙ c .before .before .before .before .before .before .before .before .before .said .given .1, front) (ap (changed (replicate n (c .before .before .before .before .before .before .before .before .before .said .given .0 .0))) (c .before .before .ok .ensures)); ordered = omega arith; inside = omega arith }
+    record { holds = simp (sym (c .before .before .before .before .before .before .before .before .before .before .before .before .before .before .before .number-of .ensures) ∙ c .before .before .before .before .before .before .before .before .before .before .before .before .length .given .1, sym (c .before .before .before .before .before .before .before .before .before .before .before .before .before .before .number-of2 .ensures) ∙ c .before .before .before .before .before .before .before .before .before .said .given .1, front) (ap (changed (replicate n (c .before .before .before .before .before .before .before .before .before .said .given .0 .0))) (c .before .before .ok .ensures)); behind = simp (sym (c .before .before .before .before .before .before .before .before .before .before .before .before .before .before .before .number-of .ensures) ∙ c .before .before .before .before .before .before .before .before .before .before .before .before .length .given .1, sym (c .before .before .before .before .before .before .before .before .before .before .before .before .before .before .number-of2 .ensures) ∙ c .before .before .before .before .before .before .before .before .before .said .given .1) refl; ordered = omega arith; inside = omega arith }
 
 -- src/lib.rt:246:1
 same-length-3 : tie.Need-same-length-3
@@ -93,7 +93,7 @@ same-length-3 c = search needs
 -- src/lib.rt:246:1
 returns-2 : tie.Need-returns-2
 unfolding numbered
-returns-2 c = record { holds = simp (sym (c .before .before .before .before .before .before .before .before .before .before .number-of .ensures) ∙ c .before .before .before .before .before .before .before .length .given .1, sym (c .before .before .before .before .before .before .before .before .before .number-of2 .ensures) ∙ c .before .before .before .before .enum-told .given .1) (ap (changed (take (c .before .before .before .before .before .before .before .before .before .before .before .before .before .before .before .args .size) (c .before .before .before .before .before .before .before .before .before .before .before .before .before .before .before .args .room .now))) (c .before .before .error .ensures)); ordered = search needs; inside = search needs }
+returns-2 c = record { holds = simp (sym (c .before .before .before .before .before .before .before .before .before .before .number-of .ensures) ∙ c .before .before .before .before .before .before .before .length .given .1, sym (c .before .before .before .before .before .before .before .before .before .number-of2 .ensures) ∙ c .before .before .before .before .enum-told .given .1) (ap (changed (take (c .before .before .before .before .before .before .before .before .before .before .before .before .before .before .before .args .size) (c .before .before .before .before .before .before .before .before .before .before .before .before .before .before .before .args .room .now))) (c .before .before .error .ensures)); behind = simp (sym (c .before .before .before .before .before .before .before .before .before .before .number-of .ensures) ∙ c .before .before .before .before .before .before .before .length .given .1, sym (c .before .before .before .before .before .before .before .before .before .number-of2 .ensures) ∙ c .before .before .before .before .enum-told .given .1) refl; ordered = search needs; inside = search needs }
 
 -- src/lib.rt:246:1
 same-length-4 : tie.Need-same-length-4
@@ -102,7 +102,7 @@ same-length-4 c = search needs
 -- src/lib.rt:246:1
 returns-3 : tie.Need-returns-3
 unfolding numbered
-returns-3 c = record { holds = simp (sym (c .before .before .before .before .before .before .before .number-of .ensures) ∙ c .before .before .before .before .enum-told2 .given .1) (ap (changed (take (c .before .before .before .before .before .before .before .before .before .before .before .before .args .size) (c .before .before .before .before .before .before .before .before .before .before .before .before .args .room .now))) (c .before .before .error2 .ensures)); ordered = search needs; inside = search needs }
+returns-3 c = record { holds = simp (sym (c .before .before .before .before .before .before .before .number-of .ensures) ∙ c .before .before .before .before .enum-told2 .given .1) (ap (changed (take (c .before .before .before .before .before .before .before .before .before .before .before .before .args .size) (c .before .before .before .before .before .before .before .before .before .before .before .before .args .room .now))) (c .before .before .error2 .ensures)); behind = simp (sym (c .before .before .before .before .before .before .before .number-of .ensures) ∙ c .before .before .before .before .enum-told2 .given .1) refl; ordered = search needs; inside = search needs }
 
 pub make-room-spec : {M : Type 1} → statement M
 make-room-spec =

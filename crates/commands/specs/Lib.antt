@@ -1,0 +1,2 @@
+-- What the console holds.
+pub mod Holding
