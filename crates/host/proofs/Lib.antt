@@ -1,0 +1,2 @@
+-- Laws of calls.
+pub mod CallLaws
