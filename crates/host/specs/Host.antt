@@ -1,8 +1,9 @@
 -- What each call gives and leaves, for all bytes. The state is a stored sheet: it is opened, the operation is done, and the next
 -- state's sheet is stored in its place. A refusal, of the sheet or of the operation, changes no byte.
-use Prim.Native.Nat.{ℕ}
+use Prim.Native.Nat.{ℕ, _-_}
 use mathlib.Core.List.{List, [], _∷_}
 use lib.Dec.{eqb}
+use lib.ListN.{length}
 use Rattle.words.specs.Choice.{when}
 use Rattle.am9517.specs.State.{fresh}
 use Rattle.am9517.specs.Answers.{numberOf}
@@ -10,7 +11,8 @@ use Rattle.am9517.specs.declared.Controller.{Controller}
 use Rattle.am9517.specs.declared.Outcome.{Outcome}
 use Rattle.service.specs.Answers.{Given, runNumberOf, ranOf}
 use Rattle.round.specs.Answers.{RoundGiven, roundNumberOf, roundedOf}
-use Rattle.sheet.specs.Sheet.{Stored, sheetWriteOf, sheetReadOf}
+use Rattle.sheet.specs.Bytes.{placed}
+use Rattle.sheet.specs.Sheet.{Stored, sheetOf, sheetWriteOf, sheetReadOf}
 use Rattle.host.specs.declared.Told.{Told}
 use Rattle.host.specs.declared.RunTold.{RunTold}
 use Rattle.host.specs.declared.RoundTold.{RoundTold}
@@ -27,7 +29,7 @@ module _ {A : Type 0} where
 
 -- the state's bytes after an operation that said n (0: no refusal) and gave s
 unfoldable pub keptOf : ℕ → Controller → List ℕ → List ℕ
-keptOf n s state = when (eqb n 0) (sheetWriteOf s state .bytes) state
+keptOf n s state = when (eqb n 0) (placed state (length state - 56) (sheetOf s)) state
 
 -- What a call says, and the bytes that it was lent to change.
 pub record Left : Type 0 where

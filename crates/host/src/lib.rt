@@ -1,24 +1,28 @@
 // The controller as a C library. The host owns the state, a stored sheet; each call opens it, does its operation and stores it again.
 // include/am9517.h tells the same in words.
+use crate::display::requesting_set;
 use crate::numbers::round_told_of;
 use crate::numbers::run_told_of;
-use crate::numbers::told_of;
+use crate::numbers::wide;
 use crate::sheets::done;
 use crate::sheets::keep;
 use crate::sheets::opened;
+use crate::sheets::state_told;
 use crate::sheets::stored;
 use am9517::Controller;
 use round::round;
 use service::run;
 ghost use mathlib.Core.Path.{_≡_};
-ghost use Rattle.am9517.specs.State.{fresh, ended};
+ghost use Rattle.am9517.specs.State.{fresh};
 ghost use Rattle.am9517.specs.Answers.{writeOf, readOf, pinsOf, resetOf, grantOf};
-ghost use Rattle.am9517.specs.Serving.{entitled, setOf};
+ghost use Rattle.am9517.specs.Serving.{entitled, setOf, status};
 ghost use Rattle.am9517.specs.declared.Controller.{Controller};
 ghost use Rattle.sheet.specs.Sheet.{sheetWriteOf};
-ghost use Rattle.host.specs.Numbers.{told, toldOf};
+ghost use Rattle.host.specs.Numbers.{told};
 ghost use Rattle.host.specs.Host.{sheetRefusal, left, callOf, lookOf, storedOf, copyOf, runLeft, runCallOf, roundLeft, roundCallOf};
 
+mod bytes;
+mod display;
 mod numbers;
 mod sheets;
 
@@ -85,9 +89,8 @@ pub extern "C" fn am9517_copy(to: &mut [u8], from: &[u8]) -> u32
 pub extern "C" fn am9517_write(state: &mut [u8], register: u32, byte: u8) -> u32
     ensures { λ r. ⌜ left (told r 0) (now (state .exit)) ≡ callOf (λ (s : Controller). writeOf s register byte) (now (state .entry)) ⌝ }
 {
-    let sheet = opened(state);
-    let outcome = sheet.controller.write(register, byte);
-    done(state, sheet.refusal, outcome).refusal
+    let outcome = state_told(state).write(register, byte);
+    done(state, outcome).refusal
 }
 
 // A register is read.
@@ -95,9 +98,8 @@ pub extern "C" fn am9517_write(state: &mut [u8], register: u32, byte: u8) -> u32
 pub extern "C" fn am9517_read(state: &mut [u8], register: u32) -> Told
     ensures { λ r. ⌜ left r (now (state .exit)) ≡ callOf (λ (s : Controller). readOf s register) (now (state .entry)) ⌝ }
 {
-    let sheet = opened(state);
-    let outcome = sheet.controller.read(register);
-    done(state, sheet.refusal, outcome)
+    let outcome = state_told(state).read(register);
+    done(state, outcome)
 }
 
 // The four DREQ pins take these levels.
@@ -105,18 +107,16 @@ pub extern "C" fn am9517_read(state: &mut [u8], register: u32) -> Told
 pub extern "C" fn am9517_pins(state: &mut [u8], levels: u32) -> u32
     ensures { λ r. ⌜ left (told r 0) (now (state .exit)) ≡ callOf (λ (s : Controller). pinsOf s levels) (now (state .entry)) ⌝ }
 {
-    let sheet = opened(state);
-    let outcome = sheet.controller.pins(levels);
-    done(state, sheet.refusal, outcome).refusal
+    let outcome = state_told(state).pins(levels);
+    done(state, outcome).refusal
 }
 
 #[no_mangle]
 pub extern "C" fn am9517_reset(state: &mut [u8]) -> u32
     ensures { λ r. ⌜ left (told r 0) (now (state .exit)) ≡ callOf resetOf (now (state .entry)) ⌝ }
 {
-    let sheet = opened(state);
-    let outcome = sheet.controller.reset();
-    done(state, sheet.refusal, outcome).refusal
+    let outcome = state_told(state).reset();
+    done(state, outcome).refusal
 }
 
 // The first entitled channel's service begins.
@@ -124,9 +124,8 @@ pub extern "C" fn am9517_reset(state: &mut [u8]) -> u32
 pub extern "C" fn am9517_grant(state: &mut [u8]) -> Told
     ensures { λ r. ⌜ left r (now (state .exit)) ≡ callOf grantOf (now (state .entry)) ⌝ }
 {
-    let sheet = opened(state);
-    let outcome = sheet.controller.grant();
-    done(state, sheet.refusal, outcome)
+    let outcome = state_told(state).grant();
+    done(state, outcome)
 }
 
 // The entitled channels, as four bits.
@@ -144,14 +143,14 @@ pub extern "C" fn am9517_entitled(state: &[u8]) -> Told
     let set = sheet.controller.entitled_set();
     Told {
         refusal: 0,
-        value: set as u32,
+        value: wide(set),
     }
 }
 
 // The status byte, during a service too; nothing is cleared.
 #[no_mangle]
 pub extern "C" fn am9517_status(state: &[u8]) -> Told
-    ensures { λ r. ⌜ r ≡ lookOf (λ (s : Controller). toldOf (readOf (ended s) 8 .answer)) (now (state .entry)) ⌝ }
+    ensures { λ r. ⌜ r ≡ lookOf (λ (s : Controller). told 0 (status s)) (now (state .entry)) ⌝ }
 {
     let sheet = opened(state);
     if sheet.refusal != 0 {
@@ -160,9 +159,12 @@ pub extern "C" fn am9517_status(state: &[u8]) -> Told
             value: 0,
         };
     }
-    let outcome = sheet.controller.ended().read(8);
-    let answer = outcome.answer;
-    told_of(answer)
+    let c = sheet.controller;
+    let requesting = requesting_set(c);
+    Told {
+        refusal: 0,
+        value: wide(c.tc) + 16 * wide(requesting),
+    }
 }
 
 // A run of the open service.

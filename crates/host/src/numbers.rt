@@ -9,6 +9,7 @@ use service::Ran;
 use service::Reason;
 use service::RunAnswer;
 ghost use mathlib.Core.Path.{_≡_};
+ghost use Prim.Native.Nat.{_≤_};
 ghost use Rattle.am9517.specs.Answers.{numberOf};
 ghost use Rattle.service.specs.Answers.{runNumberOf};
 ghost use Rattle.round.specs.Answers.{roundNumberOf};
@@ -20,8 +21,9 @@ pub struct Pair {
     pub reason: u32,
 }
 
-fn wide(n: u8) -> u32
-    ensures { λ r. ⌜ r ≡ n ⌝ }
+// A byte cast here brings its bound along.
+pub(crate) fn wide(n: u8) -> u32
+    ensures { λ r. ⌜ (r ≡ n) × (r ≤ 255) ⌝ }
 {
     n as u32
 }

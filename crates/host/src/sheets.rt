@@ -1,16 +1,29 @@
 // The state's sheet, opened and stored.
 use crate::Told;
+use crate::bytes::store;
+use crate::bytes::trailer_of;
+use crate::bytes::trailer_refusal;
 use crate::numbers::told_of;
+use crate::numbers::wide;
 use am9517::Controller;
 use am9517::Outcome;
+use sheet::body_of;
 use sheet::read;
+use sheet::state_of;
 use sheet::write;
+use words::choice::when;
 ghost use mathlib.Core.Path.{_≡_};
-ghost use lib.Dec.{eqb};
-ghost use Rattle.words.specs.Choice.{when};
+ghost use Prim.Native.Nat.{_≤_};
+ghost use lib.ListN.{length};
+ghost use Rattle.words.specs.Grounds.{first};
 ghost use Rattle.am9517.specs.State.{fresh};
+ghost use Rattle.am9517.specs.Answers.{numberOf};
+ghost use Rattle.am9517.specs.declared.Controller.{Controller};
+ghost use Rattle.sheet.specs.Bytes.{last};
+ghost use Rattle.sheet.specs.Body.{stateOf};
 ghost use Rattle.sheet.specs.Sheet.{sheetReadOf, sheetWriteOf};
-ghost use Rattle.host.specs.Host.{sheetRefusal, keptOf, left, refusedOf, doneOf, storedOf};
+ghost use Rattle.host.specs.Host.{sheetRefusal, openedOf, keptOf, left, refusedOf, doneOf, storedOf};
+ghost use Rattle.host.specs.Needs.{sealGrounds, RangeAsked};
 
 // The state that a sheet tells, or a fresh one beside the refusal's number.
 pub struct Sheet {
@@ -31,24 +44,71 @@ pub(crate) fn opened(state: &[u8]) -> Sheet
     }
 }
 
+// The state that the body tells, in its ranges or not; a fresh one where there is no body.
+pub(crate) fn state_told(state: &[u8]) -> Controller
+    ensures { λ r. ⌜ (56 ≤ length (now (state .entry)) → r ≡ stateOf (last 56 (now (state .entry)))) ⌝ }
+{
+    let n = state.len();
+    if n < 56 {
+        return Controller::fresh();
+    }
+    let start = n - 56;
+    let end = n - 8;
+    let mut body = [0; 48];
+    store(&mut body, 0, &state[start..end]);
+    state_of(body)
+}
+
+// The refusal of the sheet without its ranges, 9 to 13.
+fn seal_refusal(state: &[u8]) -> u8
+    ensures { λ r. ⌜ r ≡ first (sealGrounds (now (state .entry))) 0 ⌝ }
+{
+    let n = state.len();
+    if n < 56 {
+        return 9;
+    }
+    let start = n - 56;
+    trailer_refusal(&state[start..])
+}
+
+// The refusal of the sheet, where an operation on its state said `number`: ranges are asked once only.
+fn sheet_refusal(state: &[u8], number: u32) -> u8
+    requires { ⌜ RangeAsked (now state) number ⌝ }
+    ensures { λ r. ⌜ r ≡ sheetRefusal (now (state .entry)) ⌝ }
+{
+    let seal = seal_refusal(state);
+    when(seal == 0, when(number == 1, 14, 0), seal)
+}
+
 // The next state's sheet is stored, unless the operation was refused.
 pub(crate) fn keep(state: &mut [u8], refusal: u32, next: Controller)
+    requires { ⌜ 56 ≤ length (now state) ⌝ }
     ensures { λ _. ⌜ now (state .exit) ≡ keptOf refusal next (now (state .entry)) ⌝ }
 {
     if refusal == 0 {
-        write(next, state);
+        let start = state.len() - 56;
+        let body = body_of(next);
+        store(state, start, &body);
+        // the sum is taken of the bytes where they stand now: vector code
+        let trailer = trailer_of(&state[start..]);
+        store(state, start + 48, &trailer);
     }
 }
 
-// The end of a call: what was done is stored and told, unless the sheet was refused.
-pub(crate) fn done(state: &mut [u8], refusal: u32, outcome: Outcome) -> Told
-    ensures { λ r. ⌜ left r (now (state .exit)) ≡ when (eqb refusal 0) (doneOf (now (state .entry)) outcome) (refusedOf (now (state .entry)) refusal) ⌝ }
+// The end of a call: what was done is stored and told, unless the sheet is refused.
+pub(crate) fn done(state: &mut [u8], outcome: Outcome) -> Told
+    requires { ⌜ RangeAsked (now state) (numberOf (outcome .answer)) ⌝ }
+    ensures { λ r. ⌜ left r (now (state .exit)) ≡ openedOf (now (state .entry)) (refusedOf (now (state .entry))) (λ (s : Controller). doneOf (now (state .entry)) outcome) ⌝ }
 {
-    if refusal != 0 {
-        return Told { refusal, value: 0 };
-    }
     let answer = outcome.answer;
     let said = told_of(answer);
+    let refusal = sheet_refusal(state, said.refusal);
+    if refusal != 0 {
+        return Told {
+            refusal: wide(refusal),
+            value: 0,
+        };
+    }
     keep(state, said.refusal, outcome.controller);
     said
 }

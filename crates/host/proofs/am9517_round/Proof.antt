@@ -1,4 +1,4 @@
-use Rattle.host.proofs.CallLaws.{opened-refused, opened-good}
+use Rattle.host.proofs.CallLaws.{opened-refused, opened-good, opened-room}
 use Rattle.host.specs.Host.{roundDoneOf}
 use mathlib.Core.Path.{_∙_, ap}
 use borrow.Author.Needs.{needs}
@@ -11,43 +11,43 @@ use Rattle.host.proofs.sheets.keep.Reads as keep-reads
 use Rattle.host.proofs.sheets.opened.Reads as opened-reads
 use Rattle.round.proofs.round.Reads as round-reads
 
--- src/lib.rt:208:9
+-- src/lib.rt:210:9
 opened-requires : tie.Need-opened-requires
 opened-requires c κs = search needs
 
--- src/lib.rt:210:9
+-- src/lib.rt:212:9
 same-length : tie.Need-same-length
 same-length c = search needs
 
--- src/lib.rt:210:9
+-- src/lib.rt:212:9
 returns : tie.Need-returns
 returns c = opened-refused _ _ (c .before .before .opened .ensures) _ _ (c .if1 .taken)
 
--- src/lib.rt:220:9
+-- src/lib.rt:222:9
 round-requires : tie.Need-round-requires
 round-requires c κs = search needs
 
--- src/lib.rt:221:9
+-- src/lib.rt:223:9
 round-told-of-requires : tie.Need-round-told-of-requires
 round-told-of-requires c κs = search needs
 
--- src/lib.rt:222:5
+-- src/lib.rt:224:5
 keep-requires : tie.Need-keep-requires
-keep-requires c κs = search needs
+keep-requires c κs = opened-room (c .before .before .before .before .before .before .before .before .before .before .before .before .before .before .before .before .before .args .state .now) (c .before .before .before .before .before .before .before .before .before .before .before .opened .result) (c .before .before .before .before .before .before .before .before .before .before .before .opened .ensures) (c .before .before .before .before .before .before .before .before .before .if1 .left)
 
--- src/lib.rt:198:1
+-- src/lib.rt:200:1
 same-length-2 : tie.Need-same-length-2
 same-length-2 c = search needs
 
--- src/lib.rt:198:1
+-- src/lib.rt:200:1
 same-length-3 : tie.Need-same-length-3
 same-length-3 c = search needs
 
--- src/lib.rt:198:1
+-- src/lib.rt:200:1
 same-length-4 : tie.Need-same-length-4
 same-length-4 c = search needs
 
--- src/lib.rt:198:1
+-- src/lib.rt:200:1
 returns-2 : tie.Need-returns-2
 returns-2 c = simp (c .before .before .keep .ensures, c .before .before .before .before .round-told-of .ensures) (ap (roundDoneOf _) (c .before .before .before .before .before .before .before .before .before .round .ensures) ∙ opened-good _ _ (c .before .before .before .before .before .before .before .before .before .before .before .before .before .before .opened .ensures) _ _ (c .before .before .before .before .before .before .before .before .before .before .before .before .if1 .left))
 

@@ -1,4 +1,4 @@
-use Rattle.host.proofs.CallLaws.{opened-refused, opened-good}
+use Rattle.host.proofs.CallLaws.{opened-refused, opened-good, opened-room}
 use Rattle.host.specs.Host.{runDoneOf}
 use mathlib.Core.Path.{_∙_, ap}
 use borrow.Author.Needs.{needs}
@@ -11,43 +11,43 @@ use Rattle.host.proofs.sheets.keep.Reads as keep-reads
 use Rattle.host.proofs.sheets.opened.Reads as opened-reads
 use Rattle.service.proofs.run.Reads as run-reads
 
--- src/lib.rt:180:9
+-- src/lib.rt:182:9
 opened-requires : tie.Need-opened-requires
 opened-requires c κs = search needs
 
--- src/lib.rt:182:9
+-- src/lib.rt:184:9
 same-length : tie.Need-same-length
 same-length c = search needs
 
--- src/lib.rt:182:9
+-- src/lib.rt:184:9
 returns : tie.Need-returns
 returns c = opened-refused _ _ (c .before .before .opened .ensures) _ _ (c .if1 .taken)
 
--- src/lib.rt:191:9
+-- src/lib.rt:193:9
 run-requires : tie.Need-run-requires
 run-requires c κs = search needs
 
--- src/lib.rt:192:9
+-- src/lib.rt:194:9
 run-told-of-requires : tie.Need-run-told-of-requires
 run-told-of-requires c κs = search needs
 
--- src/lib.rt:193:5
+-- src/lib.rt:195:5
 keep-requires : tie.Need-keep-requires
-keep-requires c κs = search needs
+keep-requires c κs = opened-room (c .before .before .before .before .before .before .before .before .before .before .before .before .before .before .before .before .before .args .state .now) (c .before .before .before .before .before .before .before .before .before .before .before .opened .result) (c .before .before .before .before .before .before .before .before .before .before .before .opened .ensures) (c .before .before .before .before .before .before .before .before .before .if1 .left)
 
--- src/lib.rt:169:1
+-- src/lib.rt:171:1
 same-length-2 : tie.Need-same-length-2
 same-length-2 c = search needs
 
--- src/lib.rt:169:1
+-- src/lib.rt:171:1
 same-length-3 : tie.Need-same-length-3
 same-length-3 c = search needs
 
--- src/lib.rt:169:1
+-- src/lib.rt:171:1
 same-length-4 : tie.Need-same-length-4
 same-length-4 c = search needs
 
--- src/lib.rt:169:1
+-- src/lib.rt:171:1
 returns-2 : tie.Need-returns-2
 returns-2 c = simp (c .before .before .keep .ensures, c .before .before .before .before .run-told-of .ensures) (ap (runDoneOf _) (c .before .before .before .before .before .before .before .before .before .run .ensures) ∙ opened-good _ _ (c .before .before .before .before .before .before .before .before .before .before .before .before .before .before .opened .ensures) _ _ (c .before .before .before .before .before .before .before .before .before .before .before .before .if1 .left))
 

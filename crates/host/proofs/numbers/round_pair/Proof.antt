@@ -44,7 +44,7 @@ returns-3 c = rw (c .before .before .answer .given .1, c .reason-of .ensures)
 
 -- src/numbers.rt:60:1
 returns-4 : tie.Need-returns-4
-returns-4 c = rw (c .before .before .answer2 .given .1, c .wide .ensures)
+returns-4 c = rw (c .before .before .answer2 .given .1, c .wide .ensures .0)
 
 pub round-pair-spec : {M : Type 1} → statement M
 round-pair-spec =

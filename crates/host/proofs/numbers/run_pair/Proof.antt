@@ -28,7 +28,7 @@ returns c = rw (c .before .before .answer .given .1, c .reason-of .ensures)
 
 -- src/numbers.rt:51:1
 returns-2 : tie.Need-returns-2
-returns-2 c = rw (c .before .before .answer2 .given .1, c .wide .ensures)
+returns-2 c = rw (c .before .before .answer2 .given .1, c .wide .ensures .0)
 
 pub run-pair-spec : {M : Type 1} → statement M
 run-pair-spec =

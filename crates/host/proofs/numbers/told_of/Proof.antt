@@ -31,11 +31,11 @@ returns c = rw (c .enum-told .given .1)
 
 -- src/numbers.rt:29:1
 returns-2 : tie.Need-returns-2
-returns-2 c = rw (c .before .before .answer .given .1, c .wide .ensures)
+returns-2 c = rw (c .before .before .answer .given .1, c .wide .ensures .0)
 
 -- src/numbers.rt:29:1
 returns-3 : tie.Need-returns-3
-returns-3 c = rw (c .before .before .answer2 .given .1, c .wide2 .ensures)
+returns-3 c = rw (c .before .before .answer2 .given .1, c .wide2 .ensures .0)
 
 pub told-of-spec : {M : Type 1} → statement M
 told-of-spec =
