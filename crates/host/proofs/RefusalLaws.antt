@@ -6,10 +6,12 @@ use mathlib.Core.Bool.{Bool, true, false, not}
 use mathlib.Core.List.{List, [], _∷_}
 use lib.Dec.{eqb, ltb}
 use lib.ListN.{length, take}
-use borrow.Author.Tests.{ltb-false}
+use native.Mathlib.Omega.{arith}
+use borrow.Author.Tests.{ltb-false, eq-eqb, ne-eqb}
 use Rattle.words.specs.Choice.{when}
 use Rattle.words.specs.Grounds.{Ground, _if_, first}
-use Rattle.words.proofs.ChoiceLaws.{when-both}
+use Rattle.words.proofs.ChoiceLaws.{when-both, when-hit, when-miss}
+use Rattle.words.proofs.GroundLaws.{passed}
 use Rattle.am9517.specs.State.{fresh}
 use Rattle.am9517.specs.Ranges.{valid}
 use Rattle.am9517.specs.Refusals.{refusal}
@@ -22,7 +24,7 @@ use Rattle.sheet.specs.Trailer.{endMark}
 use Rattle.sheet.specs.Sheet.{sheetReadGrounds, sheetReadOf}
 use Rattle.sheet.proofs.SheetLaws.{read-room, read-done}
 use Rattle.host.specs.Host.{sheetRefusal}
-use Rattle.host.specs.Needs.{sealGrounds, RangeAsked}
+use Rattle.host.specs.Needs.{sealRefusal, RangeAsked}
 
 sheet-number : (state : List ℕ) → sheetRefusal state ≡ refusal (sheetReadGrounds state)
 sheet-number state = number-told _ _ _ _ refl
@@ -45,20 +47,33 @@ chain false false false true e x = refl
 chain false false false false true x = refl
 chain false false false false false x = refl
 
--- 9 to 13 by the bytes, 14 where the operation said 1
-pub refused-in-parts : (state : List ℕ) (seal number : ℕ) → seal ≡ first (sealGrounds state) 0 → RangeAsked state number
-    → when (eqb seal 0) (when (eqb number 1) 14 0) seal ≡ sheetRefusal state
-unfolding first refusal when
-refused-in-parts state seal number is asked = rw is (go (ltb (length state) 56) refl ∙ sym (sheet-number state))
-  where
-    go : (t : Bool) → ltb (length state) 56 ≡ t
-        → when (eqb (first (sealGrounds state) 0) 0) (when (eqb number 1) 14 0) (first (sealGrounds state) 0) ≡ refusal (sheetReadGrounds state)
-    go true e = simp e
-    go false e =
-        let sheet = last 56 state in
-        rw (asked (ltb-false _ _ e))
-        (chain (ltb (length state) 56) (not (eqb (word sheet 54) endMark)) (not (eqb (word sheet 48) 1)) (not (eqb (word sheet 50) 48))
-        (not (eqb (word sheet 52) (total (take 48 sheet)))) (when (not (valid (stateOf sheet))) 14 0))
+-- 9 to 13 by the bytes, 14 by the ranges
+in-parts : (state : List ℕ)
+    → when (eqb (sealRefusal state) 0) (when (not (valid (stateOf (last 56 state)))) 14 0) (sealRefusal state) ≡ sheetRefusal state
+unfolding first refusal
+in-parts state =
+    let sheet = last 56 state in
+    chain (ltb (length state) 56) (not (eqb (word sheet 54) endMark)) (not (eqb (word sheet 48) 1)) (not (eqb (word sheet 50) 48))
+    (not (eqb (word sheet 52) (total (take 48 sheet)))) (when (not (valid (stateOf sheet))) 14 0)
+    ∙ sym (sheet-number state)
+
+pub not-sealed : (state : List ℕ) (n : ℕ) → n ≡ sealRefusal state → (n ≡ 0 → ⊥) → n ≡ sheetRefusal state
+not-sealed state n is bad = is ∙ sym (when-miss _ _ _ (ne-eqb _ _ (λ e. bad (is ∙ e)))) ∙ in-parts state
+
+module _ (state : List ℕ) (sealed : sealRefusal state ≡ 0) where
+  pub sealed-room : 56 ≤ length state
+  unfolding first
+  sealed-room = ltb-false _ _ (passed _ _ _ (omega arith) sealed .test)
+
+  ranges-left : when (not (valid (stateOf (last 56 state)))) 14 0 ≡ sheetRefusal state
+  ranges-left = sym (when-hit _ _ _ (eq-eqb _ _ sealed)) ∙ in-parts state
+
+  -- the operation on it said 1, or not
+  pub out-of-ranges : (n : ℕ) → RangeAsked state n → n ≡ 1 → 14 ≡ sheetRefusal state
+  out-of-ranges n asked e = sym (when-hit _ _ _ (sym (asked sealed-room) ∙ eq-eqb n 1 e)) ∙ ranges-left
+
+  pub in-ranges : (n : ℕ) → RangeAsked state n → (n ≡ 1 → ⊥) → 0 ≡ sheetRefusal state
+  in-ranges n asked h = sym (when-miss _ _ _ (sym (asked sealed-room) ∙ ne-eqb n 1 h)) ∙ ranges-left
 
 -- an operation whose first ground is 1 says 1 exactly where that holds
 asked-first : (t : Bool) (rest : List (Ground ℕ)) → eqb (first rest 0) 1 ≡ false → eqb (refusal (1 if t ∷ rest)) 1 ≡ t

@@ -5,7 +5,7 @@ use mathlib.Core.Bool.{not}
 use mathlib.Core.List.{List, [], _∷_}
 use lib.Dec.{eqb, ltb}
 use lib.ListN.{length, getD}
-use Rattle.words.specs.Grounds.{Ground, _if_}
+use Rattle.words.specs.Grounds.{Ground, _if_, first}
 use Rattle.am9517.specs.Ranges.{valid}
 use Rattle.sheet.specs.Bytes.{last}
 use Rattle.sheet.specs.Body.{stateOf}
@@ -21,6 +21,9 @@ sixteenOf b k = fourOf b k + fourOf b (k + 4) + fourOf b (k + 8) + fourOf b (k +
 -- the grounds of sheet reading but the last
 abbrev pub sealGrounds : List ℕ → List (Ground ℕ)
 sealGrounds state = 9 if ltb (length state) 56 ∷ trailerGrounds 1 48 (last 56 state)
+
+abbrev pub sealRefusal : List ℕ → ℕ
+sealRefusal state = first (sealGrounds state) 0
 
 -- an operation on what the body tells says 1 exactly where that breaks a range
 abbrev pub RangeAsked : List ℕ → ℕ → Type 0

@@ -7,11 +7,13 @@ use crate::numbers::wide;
 use crate::sheets::done;
 use crate::sheets::keep;
 use crate::sheets::opened;
+use crate::sheets::seal_refusal;
 use crate::sheets::state_told;
 use crate::sheets::stored;
 use am9517::Controller;
 use round::round;
 use service::run;
+use sheet::body_of;
 ghost use mathlib.Core.Path.{_≡_};
 ghost use Rattle.am9517.specs.State.{fresh};
 ghost use Rattle.am9517.specs.Answers.{writeOf, readOf, pinsOf, resetOf, grantOf};
@@ -89,8 +91,13 @@ pub extern "C" fn am9517_copy(to: &mut [u8], from: &[u8]) -> u32
 pub extern "C" fn am9517_write(state: &mut [u8], register: u32, byte: u8) -> u32
     ensures { λ r. ⌜ left (told r 0) (now (state .exit)) ≡ callOf (λ (s : Controller). writeOf s register byte) (now (state .entry)) ⌝ }
 {
+    let seal = seal_refusal(state);
+    if seal != 0 {
+        return seal;
+    }
     let outcome = state_told(state).write(register, byte);
-    done(state, outcome).refusal
+    let answer = outcome.answer;
+    done(state, answer, body_of(outcome.controller)).refusal
 }
 
 // A register is read.
@@ -98,8 +105,16 @@ pub extern "C" fn am9517_write(state: &mut [u8], register: u32, byte: u8) -> u32
 pub extern "C" fn am9517_read(state: &mut [u8], register: u32) -> Told
     ensures { λ r. ⌜ left r (now (state .exit)) ≡ callOf (λ (s : Controller). readOf s register) (now (state .entry)) ⌝ }
 {
+    let seal = seal_refusal(state);
+    if seal != 0 {
+        return Told {
+            refusal: seal,
+            value: 0,
+        };
+    }
     let outcome = state_told(state).read(register);
-    done(state, outcome)
+    let answer = outcome.answer;
+    done(state, answer, body_of(outcome.controller))
 }
 
 // The four DREQ pins take these levels.
@@ -107,16 +122,26 @@ pub extern "C" fn am9517_read(state: &mut [u8], register: u32) -> Told
 pub extern "C" fn am9517_pins(state: &mut [u8], levels: u32) -> u32
     ensures { λ r. ⌜ left (told r 0) (now (state .exit)) ≡ callOf (λ (s : Controller). pinsOf s levels) (now (state .entry)) ⌝ }
 {
+    let seal = seal_refusal(state);
+    if seal != 0 {
+        return seal;
+    }
     let outcome = state_told(state).pins(levels);
-    done(state, outcome).refusal
+    let answer = outcome.answer;
+    done(state, answer, body_of(outcome.controller)).refusal
 }
 
 #[no_mangle]
 pub extern "C" fn am9517_reset(state: &mut [u8]) -> u32
     ensures { λ r. ⌜ left (told r 0) (now (state .exit)) ≡ callOf resetOf (now (state .entry)) ⌝ }
 {
+    let seal = seal_refusal(state);
+    if seal != 0 {
+        return seal;
+    }
     let outcome = state_told(state).reset();
-    done(state, outcome).refusal
+    let answer = outcome.answer;
+    done(state, answer, body_of(outcome.controller)).refusal
 }
 
 // The first entitled channel's service begins.
@@ -124,8 +149,16 @@ pub extern "C" fn am9517_reset(state: &mut [u8]) -> u32
 pub extern "C" fn am9517_grant(state: &mut [u8]) -> Told
     ensures { λ r. ⌜ left r (now (state .exit)) ≡ callOf grantOf (now (state .entry)) ⌝ }
 {
+    let seal = seal_refusal(state);
+    if seal != 0 {
+        return Told {
+            refusal: seal,
+            value: 0,
+        };
+    }
     let outcome = state_told(state).grant();
-    done(state, outcome)
+    let answer = outcome.answer;
+    done(state, answer, body_of(outcome.controller))
 }
 
 // The entitled channels, as four bits.
@@ -192,7 +225,7 @@ pub extern "C" fn am9517_run(
     }
     let ran = run(sheet.controller, memory, device, room, limit, eop_at);
     let said = run_told_of(ran);
-    keep(state, said.refusal, ran.controller);
+    keep(state, said.refusal, body_of(ran.controller));
     said
 }
 
@@ -221,6 +254,6 @@ pub extern "C" fn am9517_round(
     }
     let rounded = round(sheet.controller, memory, device, room, k);
     let said = round_told_of(rounded);
-    keep(state, said.refusal, rounded.controller);
+    keep(state, said.refusal, body_of(rounded.controller));
     said
 }

@@ -5,25 +5,22 @@ use crate::bytes::trailer_of;
 use crate::bytes::trailer_refusal;
 use crate::numbers::told_of;
 use crate::numbers::wide;
+use am9517::Answer;
 use am9517::Controller;
-use am9517::Outcome;
-use sheet::body_of;
 use sheet::read;
 use sheet::state_of;
 use sheet::write;
-use words::choice::when;
 ghost use mathlib.Core.Path.{_≡_};
 ghost use Prim.Native.Nat.{_≤_};
 ghost use lib.ListN.{length};
-ghost use Rattle.words.specs.Grounds.{first};
 ghost use Rattle.am9517.specs.State.{fresh};
 ghost use Rattle.am9517.specs.Answers.{numberOf};
 ghost use Rattle.am9517.specs.declared.Controller.{Controller};
 ghost use Rattle.sheet.specs.Bytes.{last};
-ghost use Rattle.sheet.specs.Body.{stateOf};
+ghost use Rattle.sheet.specs.Body.{bodyOf, stateOf};
 ghost use Rattle.sheet.specs.Sheet.{sheetReadOf, sheetWriteOf};
 ghost use Rattle.host.specs.Host.{sheetRefusal, openedOf, keptOf, left, refusedOf, doneOf, storedOf};
-ghost use Rattle.host.specs.Needs.{sealGrounds, RangeAsked};
+ghost use Rattle.host.specs.Needs.{sealRefusal, RangeAsked};
 
 // The state that a sheet tells, or a fresh one beside the refusal's number.
 pub struct Sheet {
@@ -60,34 +57,24 @@ pub(crate) fn state_told(state: &[u8]) -> Controller
 }
 
 // The refusal of the sheet without its ranges, 9 to 13.
-fn seal_refusal(state: &[u8]) -> u8
-    ensures { λ r. ⌜ r ≡ first (sealGrounds (now (state .entry))) 0 ⌝ }
+pub(crate) fn seal_refusal(state: &[u8]) -> u32
+    ensures { λ r. ⌜ r ≡ sealRefusal (now (state .entry)) ⌝ }
 {
     let n = state.len();
     if n < 56 {
         return 9;
     }
     let start = n - 56;
-    trailer_refusal(&state[start..])
+    wide(trailer_refusal(&state[start..]))
 }
 
-// The refusal of the sheet, where an operation on its state said `number`: ranges are asked once only.
-fn sheet_refusal(state: &[u8], number: u32) -> u8
-    requires { ⌜ RangeAsked (now state) number ⌝ }
-    ensures { λ r. ⌜ r ≡ sheetRefusal (now (state .entry)) ⌝ }
-{
-    let seal = seal_refusal(state);
-    when(seal == 0, when(number == 1, 14, 0), seal)
-}
-
-// The next state's sheet is stored, unless the operation was refused.
-pub(crate) fn keep(state: &mut [u8], refusal: u32, next: Controller)
+// The sheet of the next state's body is stored, unless the operation was refused.
+pub(crate) fn keep(state: &mut [u8], refusal: u32, body: [u8; 48])
     requires { ⌜ 56 ≤ length (now state) ⌝ }
-    ensures { λ _. ⌜ now (state .exit) ≡ keptOf refusal next (now (state .entry)) ⌝ }
+    ensures { λ _. ⌜ ((next : Controller) → body ≡ bodyOf next → now (state .exit) ≡ keptOf refusal next (now (state .entry))) ⌝ }
 {
     if refusal == 0 {
         let start = state.len() - 56;
-        let body = body_of(next);
         store(state, start, &body);
         // the sum is taken of the bytes where they stand now: vector code
         let trailer = trailer_of(&state[start..]);
@@ -95,21 +82,20 @@ pub(crate) fn keep(state: &mut [u8], refusal: u32, next: Controller)
     }
 }
 
-// The end of a call: what was done is stored and told, unless the sheet is refused.
-pub(crate) fn done(state: &mut [u8], outcome: Outcome) -> Told
-    requires { ⌜ RangeAsked (now state) (numberOf (outcome .answer)) ⌝ }
-    ensures { λ r. ⌜ left r (now (state .exit)) ≡ openedOf (now (state .entry)) (refusedOf (now (state .entry))) (λ (s : Controller). doneOf (now (state .entry)) outcome) ⌝ }
+// The end of a call on a sealed state: what was done is stored and told. A state out of its ranges, which the operation refuses by
+// 1, is refused by 14: so ranges are asked once only.
+pub(crate) fn done(state: &mut [u8], answer: Answer, body: [u8; 48]) -> Told
+    requires { ⌜ (sealRefusal (now state) ≡ 0) × RangeAsked (now state) (numberOf answer) ⌝ }
+    ensures { λ r. ⌜ ((next : Controller) → body ≡ bodyOf next → left r (now (state .exit)) ≡ openedOf (now (state .entry)) (refusedOf (now (state .entry))) (λ (s : Controller). doneOf (now (state .entry)) (record { controller = next; answer = answer }))) ⌝ }
 {
-    let answer = outcome.answer;
     let said = told_of(answer);
-    let refusal = sheet_refusal(state, said.refusal);
-    if refusal != 0 {
+    if said.refusal == 1 {
         return Told {
-            refusal: wide(refusal),
+            refusal: 14,
             value: 0,
         };
     }
-    keep(state, said.refusal, outcome.controller);
+    keep(state, said.refusal, body);
     said
 }
 

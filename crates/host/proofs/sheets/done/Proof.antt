@@ -1,59 +1,35 @@
 use Rattle.host.proofs.CallLaws.{refused-by, gone-by}
-use Rattle.host.proofs.RefusalLaws.{good-room}
+use Rattle.host.proofs.RefusalLaws.{sealed-room, out-of-ranges, in-ranges}
 use Rattle.host.specs.declared.Told.{Told}
-use lib.Dec.{eqb}
-use mathlib.Core.Path.{_∙_, ap, sym}
+use native.Mathlib.Omega.{arith}
+use mathlib.Core.Path.{_∙_, ap, refl, sym}
 use borrow.Author.Needs.{needs}
 use Rattle.host.proofs.sheets.done.Statement.{statement}
 use Rattle.host.proofs.sheets.done.Tie as tie
 use Rattle.host.proofs.sheets.done.Reads as reads
 use Rattle.host.proofs.sheets.done.Lts as lts
 use Rattle.host.proofs.numbers.told_of.Reads as told-of-reads
-use Rattle.host.proofs.numbers.wide.Reads as wide-reads
 use Rattle.host.proofs.sheets.keep.Reads as keep-reads
-use Rattle.host.proofs.sheets.sheet_refusal.Reads as sheet-refusal-reads
 
--- src/sheets.rt:104:9
+-- src/sheets.rt:91:9
 told-of-requires : tie.Need-told-of-requires
 told-of-requires c κs = search needs
 
--- src/sheets.rt:105:9
-sheet-refusal-requires : tie.Need-sheet-refusal-requires
-sheet-refusal-requires c κs = λ room. ap (λ (t : Told). eqb (t .refusal) 1) (c .before .told-of .ensures) ∙ c .before .before .before .pre room
+-- src/sheets.rt:93:9
+returns : tie.Need-returns
+returns c = λ next is. refused-by (c .before .before .before .before .args .state .now) _ _ 14 (out-of-ranges (c .before .before .before .before .args .state .now) (c .before .before .before .before .pre .0) _ (c .before .before .before .before .pre .1) (sym (ap (λ (t : Told). t .refusal) (c .before .before .told-of .ensures)) ∙ c .if1 .taken)) (λ e. omega arith)
 
--- src/sheets.rt:108:22
-wide-requires : tie.Need-wide-requires
-wide-requires c κs = search needs
+-- src/sheets.rt:98:5
+keep-requires : tie.Need-keep-requires
+keep-requires c κs = sealed-room (c .before .before .before .before .before .args .state .now) (c .before .before .before .before .before .pre .0)
 
--- src/sheets.rt:107:9
+-- src/sheets.rt:87:1
 same-length : tie.Need-same-length
 same-length c = search needs
 
--- src/sheets.rt:107:9
-returns : tie.Need-returns
-returns c = rw (c .wide .ensures .0) (refused-by (c .before .before .before .before .before .before .args .state .now) _ _ (c .before .before .sheet-refusal .result) (c .before .before .sheet-refusal .ensures) (c .before .if1 .taken))
-
--- src/sheets.rt:112:5
-keep-requires : tie.Need-keep-requires
-keep-requires c κs = good-room (c .before .before .before .before .before .before .args .state .now) (sym (c .before .before .sheet-refusal .ensures) ∙ c .before .if1 .left)
-
--- src/sheets.rt:99:1
-same-length-2 : tie.Need-same-length-2
-same-length-2 c = search needs
-
--- src/sheets.rt:99:1
+-- src/sheets.rt:87:1
 returns-2 : tie.Need-returns-2
-returns-2 c = simp (c .before .before .keep .ensures, c .before .before .before .before .before .before .before .told-of .ensures) (gone-by (c .before .before .before .before .before .before .before .before .before .args .state .now) _ _ (c .before .before .before .before .before .sheet-refusal .result) (c .before .before .before .before .before .sheet-refusal .ensures) (c .before .before .before .before .if1 .left))
+returns-2 c = λ next is. simp (c .before .before .keep .ensures next is, c .before .before .before .before .before .before .told-of .ensures) (gone-by (c .before .before .before .before .before .before .before .before .args .state .now) _ _ 0 (in-ranges (c .before .before .before .before .before .before .before .before .args .state .now) (c .before .before .before .before .before .before .before .before .pre .0) _ (c .before .before .before .before .before .before .before .before .pre .1) (λ e. c .before .before .before .before .if1 .left (ap (λ (t : Told). t .refusal) (c .before .before .before .before .before .before .told-of .ensures) ∙ e))) refl)
 
 pub done-spec : {M : Type 1} → statement M
-done-spec =
-    tie.close
-    (tie.spec
-    told-of-requires
-    sheet-refusal-requires
-    wide-requires
-    same-length
-    returns
-    keep-requires
-    same-length-2
-    returns-2)
+done-spec = tie.close (tie.spec told-of-requires returns keep-requires same-length returns-2)
