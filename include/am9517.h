@@ -1,6 +1,6 @@
 /* am9517.h - one Am9517A DMA controller in software, as a C library.
  *
- * Link with libam9517.a; nothing else is needed, not even the C library. C99 or later, and C++.
+ * Link with libam9517.a; of the C library it wants memset alone. C99 or later, and C++.
  *
  * THE STATE is 56 bytes that the caller owns: the stored sheet of document 01, form 1.
  *
@@ -9,8 +9,8 @@
  *
  * It can be copied, kept in a file and sent as it is. Every call checks it first, then does its work, then writes
  * it back whole. A damaged state is refused by its number (9 to 14) instead of running wild. The library keeps
- * nothing of its own between two calls: it has no variables, allocates nothing and calls nothing, so calls on
- * different states may run at the same time.
+ * nothing of its own between two calls: it has no variables and allocates nothing, so calls on different states may
+ * run at the same time.
  *
  * REFUSALS. Each call answers a refusal number, 0 for none. The state's own come first (AM9517_SHEET_SHORT to
  * AM9517_RANGE), then the operation's in document 01's order. A refused call changes no byte of state, memory or
