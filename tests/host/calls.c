@@ -73,6 +73,8 @@ static void bad_states(void)
     am9517_fresh(s, SIZE);
     refused_by(s, 55, AM9517_SHEET_SHORT, "55 bytes");
     refused_by(s, 0, AM9517_SHEET_SHORT, "no byte");
+    for (int which = 0; which <= 10; which++)
+        expect(call(which, NULL, 0) == AM9517_SHEET_SHORT, "NULL", (unsigned long)which);
     damaged(55, 0x4c, 0, AM9517_END_MARK, "end mark");
     damaged(54, 0x45, 0, AM9517_END_MARK, "end mark, first byte");
     damaged(48, 2, 0, AM9517_FORM, "form 2");
