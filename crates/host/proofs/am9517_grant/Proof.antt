@@ -10,47 +10,13 @@ use mathlib.Core.Path.{_∙_, ap, sym}
 use borrow.Author.Needs.{needs}
 use Rattle.host.proofs.am9517_grant.Statement.{statement}
 use Rattle.host.proofs.am9517_grant.Tie as tie
-use Rattle.host.proofs.am9517_grant.Reads as reads
-use Rattle.host.proofs.am9517_grant.Lts as lts
-use Rattle.am9517.proofs.Controller.grant.Reads as grant-reads
-use Rattle.host.proofs.sheets.done.Reads as done-reads
-use Rattle.host.proofs.sheets.seal_refusal.Reads as seal-refusal-reads
-use Rattle.host.proofs.sheets.state_told.Reads as state-told-reads
-use Rattle.sheet.proofs.body_of.Reads as body-of-reads
 
--- src/lib.rt:152:9
-seal-refusal-requires : tie.Need-seal-refusal-requires
-seal-refusal-requires c κs = search needs
-
--- src/lib.rt:154:9
-same-length : tie.Need-same-length
-same-length c = search needs
-
--- src/lib.rt:154:9
 returns : tie.Need-returns
 returns c = refused-by (c .before .before .before .before .args .state .now) _ _ (c .before .seal-refusal .result) (not-sealed (c .before .before .before .before .args .state .now) (c .before .seal-refusal .result) (c .before .seal-refusal .ensures) (c .if1 .taken)) (c .if1 .taken)
 
--- src/lib.rt:159:19
-state-told-requires : tie.Need-state-told-requires
-state-told-requires c κs = search needs
-
--- src/lib.rt:159:9
-grant-requires : tie.Need-grant-requires
-grant-requires c κs = search needs
-
--- src/lib.rt:161:25
-body-of-requires : tie.Need-body-of-requires
-body-of-requires c κs = search needs
-
--- src/lib.rt:161:5
 done-requires : tie.Need-done-requires
 done-requires c κs = (sym (c .before .before .before .before .before .before .seal-refusal .ensures) ∙ c .before .before .before .before .before .if1 .left, λ room. ap (λ (o : Outcome). eqb (numberOf (o .answer)) 1) (c .before .before .grant .ensures) ∙ grant-asked (c .before .before .before .state-told .result) ∙ ap (λ (s : Controller). not (valid s)) (c .before .before .before .state-told .ensures room))
 
--- src/lib.rt:148:1
-same-length-2 : tie.Need-same-length-2
-same-length-2 c = search needs
-
--- src/lib.rt:148:1
 returns-2 : tie.Need-returns-2
 returns-2 c = c .before .before .done .ensures (c .before .before .before .before .before .grant .result .controller) (c .before .before .before .body-of .ensures) ∙ called grantOf (c .before .before .before .before .before .before .before .before .before .before .before .before .args .state .now) (c .before .before .before .before .before .before .state-told .result) (c .before .before .before .before .before .grant .result) (c .before .before .before .before .before .before .state-told .ensures) (c .before .before .before .before .before .grant .ensures)
 
@@ -58,12 +24,12 @@ pub am9517-grant-spec : {M : Type 1} → statement M
 am9517-grant-spec =
     tie.close
     (tie.spec
-    seal-refusal-requires
-    same-length
+    (search needs)
+    (search needs)
     returns
-    state-told-requires
-    grant-requires
-    body-of-requires
+    (search needs)
+    (search needs)
+    (search needs)
     done-requires
-    same-length-2
+    (search needs)
     returns-2)

@@ -10,47 +10,13 @@ use mathlib.Core.Path.{_∙_, ap, sym}
 use borrow.Author.Needs.{needs}
 use Rattle.host.proofs.am9517_pins.Statement.{statement}
 use Rattle.host.proofs.am9517_pins.Tie as tie
-use Rattle.host.proofs.am9517_pins.Reads as reads
-use Rattle.host.proofs.am9517_pins.Lts as lts
-use Rattle.am9517.proofs.Controller.pins.Reads as pins-reads
-use Rattle.host.proofs.sheets.done.Reads as done-reads
-use Rattle.host.proofs.sheets.seal_refusal.Reads as seal-refusal-reads
-use Rattle.host.proofs.sheets.state_told.Reads as state-told-reads
-use Rattle.sheet.proofs.body_of.Reads as body-of-reads
 
--- src/lib.rt:125:9
-seal-refusal-requires : tie.Need-seal-refusal-requires
-seal-refusal-requires c κs = search needs
-
--- src/lib.rt:127:9
-same-length : tie.Need-same-length
-same-length c = search needs
-
--- src/lib.rt:127:9
 returns : tie.Need-returns
 returns c = refused-by (c .before .before .before .before .args .state .now) _ _ (c .before .seal-refusal .result) (not-sealed (c .before .before .before .before .args .state .now) (c .before .seal-refusal .result) (c .before .seal-refusal .ensures) (c .if1 .taken)) (c .if1 .taken)
 
--- src/lib.rt:129:19
-state-told-requires : tie.Need-state-told-requires
-state-told-requires c κs = search needs
-
--- src/lib.rt:129:9
-pins-requires : tie.Need-pins-requires
-pins-requires c κs = search needs
-
--- src/lib.rt:131:25
-body-of-requires : tie.Need-body-of-requires
-body-of-requires c κs = search needs
-
--- src/lib.rt:131:5
 done-requires : tie.Need-done-requires
 done-requires c κs = (sym (c .before .before .before .before .before .before .seal-refusal .ensures) ∙ c .before .before .before .before .before .if1 .left, λ room. ap (λ (o : Outcome). eqb (numberOf (o .answer)) 1) (c .before .before .pins .ensures) ∙ pins-asked (c .before .before .before .state-told .result) (c .before .before .before .before .before .before .before .before .before .args .levels) ∙ ap (λ (s : Controller). not (valid s)) (c .before .before .before .state-told .ensures room))
 
--- src/lib.rt:121:1
-same-length-2 : tie.Need-same-length-2
-same-length-2 c = search needs
-
--- src/lib.rt:121:1
 returns-2 : tie.Need-returns-2
 returns-2 c = number-only (λ (s : Controller). pinsOf s (c .before .before .before .before .before .before .before .before .before .before .before .before .args .levels)) (c .before .before .before .before .before .before .before .before .before .before .before .before .args .state .now) (λ s. no-value _ _ _) (c .before .before .done .result) _ (c .before .before .done .ensures (c .before .before .before .before .before .pins .result .controller) (c .before .before .before .body-of .ensures) ∙ called (λ (s : Controller). pinsOf s (c .before .before .before .before .before .before .before .before .before .before .before .before .args .levels)) (c .before .before .before .before .before .before .before .before .before .before .before .before .args .state .now) (c .before .before .before .before .before .before .state-told .result) (c .before .before .before .before .before .pins .result) (c .before .before .before .before .before .before .state-told .ensures) (c .before .before .before .before .before .pins .ensures))
 
@@ -58,12 +24,12 @@ pub am9517-pins-spec : {M : Type 1} → statement M
 am9517-pins-spec =
     tie.close
     (tie.spec
-    seal-refusal-requires
-    same-length
+    (search needs)
+    (search needs)
     returns
-    state-told-requires
-    pins-requires
-    body-of-requires
+    (search needs)
+    (search needs)
+    (search needs)
     done-requires
-    same-length-2
+    (search needs)
     returns-2)
