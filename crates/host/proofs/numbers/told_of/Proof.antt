@@ -1,0 +1,25 @@
+use borrow.Author.Needs.{needs}
+use Rattle.host.proofs.numbers.told_of.Statement.{statement}
+use Rattle.host.proofs.numbers.told_of.Tie as tie
+
+returns : tie.Need-returns
+returns c = rw (c .enum-told .given .1)
+
+returns-2 : tie.Need-returns-2
+returns-2 c = rw (c .before .before .answer .given .1, c .wide .ensures .0)
+
+returns-3 : tie.Need-returns-3
+returns-3 c = rw (c .before .before .answer2 .given .1, c .wide2 .ensures .0)
+
+pub told-of-spec : {M : Type 1} → statement M
+told-of-spec =
+    tie.close
+    (tie.spec
+    (search needs)
+    (search needs)
+    (search needs)
+    (search needs)
+    (search needs)
+    returns
+    returns-2
+    returns-3)

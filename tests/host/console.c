@@ -1,0 +1,443 @@
+/* The rack console's line protocol, spoken through the C library: what the comparer plays against.
+ *
+ * The console's state has no range check, the library's state is a stored sheet. Here the sheet is always sealed, so
+ * of the state's refusals only 14 can come, and it comes exactly where the console says 1. The state stands at the
+ * end of a cell whose front must never change; calls are lent more or less of that front in turn. */
+#include <stdio.h>
+#include <stdlib.h>
+#include <string.h>
+
+#include "am9517.h"
+
+enum { BODY = 48, ARRAY = 65537, MOST = 70000, LINE = 200002, FRONT = 8 };
+
+static uint8_t cell[FRONT + AM9517_STATE_SIZE];
+static uint8_t *const state = cell + FRONT;
+static uint8_t memory[ARRAY];
+static uint8_t queue[MOST];
+static uint8_t room[MOST];
+static uint8_t given[LINE / 2];
+static uint8_t slice[MOST];
+static size_t lent = 65536, queued, room_size, position, given_size;
+static unsigned front;
+
+/* ---- answers */
+
+static void fail(const char *what)
+{
+    printf("host: %s\n", what);
+    exit(1);
+}
+
+static void say(const char *text)
+{
+    fwrite(text, 1, strlen(text), stdout);
+}
+
+static void say_bytes(const char *word, const uint8_t *from, size_t n)
+{
+    static char text[2 * MOST + 16];
+    static const char digits[] = "0123456789abcdef";
+    size_t at = strlen(word);
+    memcpy(text, word, at);
+    text[at++] = ' ';
+    if (n == 0)
+        text[at++] = '-';
+    for (size_t i = 0; i < n; i++) {
+        text[at++] = digits[from[i] >> 4];
+        text[at++] = digits[from[i] & 15];
+    }
+    text[at++] = '\n';
+    fwrite(text, 1, at, stdout);
+}
+
+/* A refused operation on the state: its 14 is the console's 1. */
+static int refused(uint32_t number)
+{
+    if (number == AM9517_OK)
+        return 0;
+    if (9 <= number && number <= 13)
+        fail("a sealed state is refused");
+    printf("refused %u\n", number == AM9517_RANGE ? 1u : (unsigned)number);
+    return 1;
+}
+
+static void done(uint32_t number)
+{
+    if (!refused(number))
+        say("ok\n");
+}
+
+/* ---- the state and what is around it */
+
+#define LENT (state - front), (AM9517_STATE_SIZE + front)
+
+static void seal(void)
+{
+    unsigned sum = 0;
+    for (int i = 0; i < BODY; i++)
+        sum += state[i];
+    const uint8_t trailer[8] = {1, 0, BODY, 0, (uint8_t)(sum & 255), (uint8_t)(sum >> 8), 0x44, 0x4d};
+    memcpy(state + BODY, trailer, sizeof trailer);
+}
+
+/* What the calls for display say, held to what the operations say of a copy. */
+static void look(void)
+{
+    uint8_t copy[AM9517_STATE_SIZE];
+    const uint32_t wrong = am9517_check(LENT);
+    const am9517_told entitled = am9517_entitled(LENT), status = am9517_status(LENT);
+    if (entitled.refusal != wrong || status.refusal != wrong)
+        fail("two calls see different states");
+    if (wrong != AM9517_OK && wrong != AM9517_RANGE)
+        fail("the state isn't sealed");
+    if (wrong != AM9517_OK || state[44] != 0)
+        return;
+    memcpy(copy, state, sizeof copy);
+    if (am9517_read(copy, sizeof copy, 8).value != status.value)
+        fail("status and register 8 differ");
+    memcpy(copy, state, sizeof copy);
+    const am9517_told grant = am9517_grant(copy, sizeof copy);
+    if ((grant.refusal == AM9517_NOBODY) != (entitled.value == 0))
+        fail("entitled and grant differ");
+    if (grant.refusal == AM9517_OK && !(entitled.value >> grant.value & 1))
+        fail("a channel is granted that is not entitled");
+}
+
+static void guard(void)
+{
+    for (int i = 0; i < FRONT; i++)
+        if (cell[i] != 0xc3)
+            fail("bytes in front of the state were touched");
+    front = (front + 1) % (FRONT + 1);
+}
+
+/* ---- words and numbers */
+
+static char *words[4];
+static int count;
+
+static void split(char *line)
+{
+    count = 0;
+    for (char *at = line; *at != '\0' && *at != '#';) {
+        if (*at == ' ' || *at == '\t') {
+            *at++ = '\0';
+            continue;
+        }
+        if (count < 4)
+            words[count] = at;
+        count++;
+        while (*at != '\0' && *at != '#' && *at != ' ' && *at != '\t')
+            at++;
+        if (*at == '#')
+            *at = '\0';
+    }
+}
+
+static int digit(char c)
+{
+    if ('0' <= c && c <= '9')
+        return c - '0';
+    if ('a' <= c && c <= 'f')
+        return c - 'a' + 10;
+    if ('A' <= c && c <= 'F')
+        return c - 'A' + 10;
+    return 16;
+}
+
+static int number(const char *word, uint64_t most, uint64_t *value)
+{
+    const int base = word[0] == '0' && word[1] == 'x' ? 16 : 10;
+    const char *at = base == 16 ? word + 2 : word;
+    *value = 0;
+    if (*at == '\0')
+        return 0;
+    for (; *at != '\0'; at++) {
+        const int next = digit(*at);
+        if (next >= base || *value > (~(uint64_t)0 - (unsigned)next) / (unsigned)base)
+            return 0;
+        *value = *value * (unsigned)base + (unsigned)next;
+    }
+    return *value <= most;
+}
+
+static int hex(const char *word)
+{
+    given_size = 0;
+    if (strcmp(word, "-") == 0)
+        return 1;
+    if (strlen(word) % 2 != 0)
+        return 0;
+    for (; *word != '\0'; word += 2) {
+        const int high = digit(word[0]), low = digit(word[1]);
+        if (high == 16 || low == 16)
+            return 0;
+        given[given_size++] = (uint8_t)(16 * high + low);
+    }
+    return 1;
+}
+
+/* ---- commands: each answers, or returns 0 for `error` */
+
+static int is(const char *name, int n)
+{
+    return count == n && strcmp(words[0], name) == 0;
+}
+
+static int small(int word, uint64_t most, uint64_t *value)
+{
+    return number(words[word], most, value);
+}
+
+#define WORD 0xffffffffu
+
+static int command_state(void)
+{
+    if (!hex(words[1]) || given_size != BODY)
+        return 0;
+    memcpy(state, given, BODY);
+    seal();
+    say("ok\n");
+    return 1;
+}
+
+static int command_write(void)
+{
+    uint64_t reg, byte;
+    if (!small(1, WORD, &reg) || !small(2, 255, &byte))
+        return 0;
+    done(am9517_write(LENT, (uint32_t)reg, (uint8_t)byte));
+    return 1;
+}
+
+static int command_read(void)
+{
+    uint64_t reg;
+    if (!small(1, WORD, &reg))
+        return 0;
+    const am9517_told told = am9517_read(LENT, (uint32_t)reg);
+    if (!refused(told.refusal))
+        printf("byte 0x%02x\n", (unsigned)told.value);
+    return 1;
+}
+
+static int command_pins(void)
+{
+    uint64_t levels;
+    if (!small(1, WORD, &levels))
+        return 0;
+    done(am9517_pins(LENT, (uint32_t)levels));
+    return 1;
+}
+
+static int command_grant(void)
+{
+    const am9517_told told = am9517_grant(LENT);
+    if (!refused(told.refusal))
+        printf("channel %u\n", (unsigned)told.value);
+    return 1;
+}
+
+static int command_memory(void)
+{
+    uint64_t n;
+    if (!small(1, ARRAY, &n))
+        return 0;
+    lent = n;
+    say("ok\n");
+    return 1;
+}
+
+static int command_poke(void)
+{
+    uint64_t at;
+    if (!small(1, ARRAY, &at) || !hex(words[2]) || at + given_size > ARRAY)
+        return 0;
+    memcpy(memory + at, given, given_size);
+    say("ok\n");
+    return 1;
+}
+
+static int command_show(const uint8_t *array, size_t size)
+{
+    uint64_t at, n;
+    if (!small(1, size, &at) || !small(2, size, &n) || at + n > size)
+        return 0;
+    say_bytes("bytes", array + at, n);
+    return 1;
+}
+
+static int command_feed(void)
+{
+    if (!hex(words[1]) || queued + given_size > MOST)
+        return 0;
+    memcpy(queue + queued, given, given_size);
+    queued += given_size;
+    say("ok\n");
+    return 1;
+}
+
+static int command_fill(void)
+{
+    uint64_t n, byte;
+    if (!small(1, MOST, &n) || !small(2, 255, &byte) || queued + n > MOST)
+        return 0;
+    memset(queue + queued, (int)byte, n);
+    queued += n;
+    say("ok\n");
+    return 1;
+}
+
+static int command_room(void)
+{
+    uint64_t n, byte;
+    if (!small(1, MOST, &n) || !small(2, 255, &byte))
+        return 0;
+    memset(room, (int)byte, n);
+    room_size = n;
+    position = 0;
+    say("ok\n");
+    return 1;
+}
+
+static void account(size_t used, size_t written)
+{
+    queued -= used;
+    memmove(queue, queue + used, queued);
+    position += written;
+}
+
+static const char *const reasons[] = {"?", "ended", "dropped", "cascade", "limit", "short", "done", "quiet"};
+
+static void say_totals(uint64_t transfers, size_t used, size_t written, uint64_t states)
+{
+    printf("transfers=%lu used=%lu written=%lu states=%lu\n", (unsigned long)transfers, (unsigned long)used,
+           (unsigned long)written, (unsigned long)states);
+}
+
+static int command_run(void)
+{
+    uint64_t limit, eop;
+    if (!small(1, WORD, &limit) || !small(2, WORD, &eop))
+        return 0;
+    const am9517_run_told told =
+        am9517_run(LENT, memory, lent, queue, queued, room + position, room_size - position, limit, eop);
+    if (refused(told.refusal))
+        return 1;
+    printf("%s ", reasons[told.reason & 7]);
+    say_totals(told.transfers, told.used, told.written, told.states);
+    account(told.used, told.written);
+    return 1;
+}
+
+static int command_round(void)
+{
+    uint64_t k;
+    if (!small(1, WORD, &k))
+        return 0;
+    const am9517_round_told told =
+        am9517_round(LENT, memory, lent, queue, queued, room + position, room_size - position, (uint32_t)k);
+    if (refused(told.refusal))
+        return 1;
+    printf("%s services=%u,%u,%u,%u ", reasons[told.reason & 7], (unsigned)told.services[0], (unsigned)told.services[1],
+           (unsigned)told.services[2], (unsigned)told.services[3]);
+    say_totals(told.transfers, told.used, told.written, told.states);
+    account(told.used, told.written);
+    return 1;
+}
+
+static int command_sheet(void)
+{
+    uint64_t n;
+    if (!small(1, MOST, &n))
+        return 0;
+    memset(slice, 0xee, n);
+    const uint32_t number = am9517_copy(slice, n, LENT);
+    if (number == AM9517_SHEET_SHORT)
+        say("refused 9\n");
+    else if (!refused(number))
+        say_bytes("bytes", slice, n);
+    return 1;
+}
+
+static int command_load(void)
+{
+    if (!hex(words[1]))
+        return 0;
+    const uint32_t number = am9517_copy(LENT, given, given_size);
+    if (number != AM9517_OK)
+        printf("refused %u\n", (unsigned)number);
+    else
+        say("ok\n");
+    return 1;
+}
+
+static int obey(void)
+{
+    if (is("state", 1)) {
+        say_bytes("state", state, BODY);
+        return 1;
+    }
+    if (is("fresh", 1) || is("reset", 1)) {
+        done(is("fresh", 1) ? am9517_fresh(LENT) : am9517_reset(LENT));
+        return 1;
+    }
+    if (is("peek", 3))
+        return command_show(memory, ARRAY);
+    if (is("out", 3))
+        return command_show(room, room_size);
+    return is("state", 2)    ? command_state()
+           : is("write", 3)  ? command_write()
+           : is("read", 2)   ? command_read()
+           : is("pins", 2)   ? command_pins()
+           : is("grant", 1)  ? command_grant()
+           : is("memory", 2) ? command_memory()
+           : is("poke", 3)   ? command_poke()
+           : is("feed", 2)   ? command_feed()
+           : is("fill", 3)   ? command_fill()
+           : is("room", 3)   ? command_room()
+           : is("run", 3)    ? command_run()
+           : is("round", 2)  ? command_round()
+           : is("sheet", 2)  ? command_sheet()
+           : is("load", 2)   ? command_load()
+                             : 0;
+}
+
+static void answer(char *line, size_t n, int is_long)
+{
+    if (n > 0 && line[n - 1] == '\r')
+        n--;
+    line[n] = '\0';
+    split(line);
+    if (count == 0)
+        return;
+    if (is_long || !obey())
+        say("error\n");
+    guard();
+    look();
+}
+
+int main(void)
+{
+    static char part[65536], line[LINE];
+    size_t n = 0, got;
+    int is_long = 0;
+    memset(cell, 0xc3, sizeof cell);
+    am9517_fresh(state, AM9517_STATE_SIZE);
+    while ((got = fread(part, 1, sizeof part, stdin)) > 0)
+        for (size_t i = 0; i < got; i++) {
+            if (part[i] == '\n') {
+                answer(line, n, is_long);
+                n = 0;
+                is_long = 0;
+            } else if (n < LINE - 1) {
+                line[n++] = part[i];
+            } else {
+                is_long = 1;
+            }
+        }
+    if (n > 0)
+        answer(line, n, is_long);
+    return 0;
+}
