@@ -95,6 +95,42 @@ module _ (k : ℕ) (d : List ℕ) (size : ℕ) (o : Close) (t : Totals) (m r : L
     pub rolling-falls : n ≡ next.On → Served t u n d r → t .begun < u .begun
     rolling-falls h s = omega (arith, s .begun h)
 
+-- a round may be looked at from where it stands, and what is found there holds of the whole
+pub rolling-here : (k : ℕ) (d : List ℕ) (size : ℕ) (o : Close) (t : Totals) (m r : List ℕ) → Rolling k d size o t m r → Rolling k d (length r) (roundOf (k - t .begun) d (courseOf t m r)) t m r
+rolling-here k d size o t m r g =
+    record {
+      range = g .range;
+      idle = g .idle;
+      memory = g .memory;
+      room = refl;
+      used = g .used;
+      written = g .written;
+      services = g .services;
+      begun = g .begun;
+      most = g .most;
+      transfers = g .transfers;
+      states = g .states;
+      same = refl;
+    }
+
+pub rolling-then : (k : ℕ) (d : List ℕ) (size : ℕ) (o : Close) (t : Totals) (m r : List ℕ) → Rolling k d size o t m r
+    → (u : Totals) (m' r' : List ℕ) → Rolling k d (length r) (roundOf (k - t .begun) d (courseOf t m r)) u m' r' → Rolling k d size o u m' r'
+rolling-then k d size o t m r g u m' r' h =
+    record {
+      range = h .range;
+      idle = h .idle;
+      memory = h .memory;
+      room = h .room ∙ g .room;
+      used = h .used;
+      written = h .written;
+      services = h .services;
+      begun = h .begun;
+      most = h .most;
+      transfers = h .transfers;
+      states = h .states;
+      same = h .same ∙ g .same;
+    }
+
 -- where a round begins
 pub rolling-start : (k : ℕ) (c : Controller) (m d r : List ℕ) (t : Totals) → t ≡ startTotals c → valid c ≡ true → c .«in_service» ≡ 0 → length m ≡ 65536 → k ≤ 4096 → Rolling k d (length r) (roundOf k d (courseOf t m r)) t m r
 rolling-start k c m d r t e v i size most =

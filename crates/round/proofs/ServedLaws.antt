@@ -73,10 +73,10 @@ module _ (t : Totals) (m d r : List ℕ) (ready : Ready t m d r) (some : nobody 
   channel-below = omega (arith, picked-most (t .controller), eqb-false n 4 some)
 
   -- what the run of the granted service gives
-  abbrev ran : Ran
+  abbrev pub ran : Ran
   ran = record { controller = s .world .controller; answer = Stopped (s .reason); transfers = s .world .transfers; used = s .world .used; written = s .world .written; states = s .world .states }
 
-  handed-served : handedOn g t m d r ≡ given ran (s .world .memory) (take (t .written) r ++ s .world .room)
+  pub handed-served : handedOn g t m d r ≡ given ran (s .world .memory) (take (t .written) r ++ s .world .room)
   unfolding handedOn runNext stopped
   handed-served =
       ap (λ (x : Given). given (x .ran) (x .memory) (take (t .written) r ++ x .room))

@@ -19,6 +19,8 @@ ghost use Rattle.round.specs.Answers.{roundGiven, closed, roundGrounds, 
 ghost use Rattle.round.specs.Needs.{courseOf, startTotals, addedTo, handedOn, turned, turnOf, Ready, Roomy, Served};
 ghost use Rattle.service.specs.Answers.{given};
 
+mod singles;
+
 // Why a round stopped: k services begun, nobody entitled, a run that did not end; or the number of its refusal.
 pub enum RoundAnswer {
     Done,
@@ -202,6 +204,7 @@ fn rounds(c: Controller, memory: &mut [u8], device: &[u8], room: &mut [u8], k: u
 {
     let mut t = start_of(c);
     loop {
+        t = singles::singles(t, memory, device, room, k);
         if t.begun == k {
             return closed(t, RoundAnswer::Done);
         }
