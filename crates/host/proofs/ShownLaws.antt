@@ -6,7 +6,7 @@ use mathlib.Core.Bool.{Bool, true, false, _&&_}
 use native.Mathlib.Omega.{arith}
 use Rattle.words.specs.Bits.{bit}
 use Rattle.am9517.specs.State.{put, Field, Mask, Command}
-use Rattle.am9517.specs.Serving.{active, counted, requests, entitled, setOf}
+use Rattle.am9517.specs.Serving.{active, requestCounts, requests, entitled, setOf}
 use Rattle.am9517.specs.declared.Controller.{Controller}
 
 abbrev pub unhindered : Controller → Controller
@@ -17,7 +17,7 @@ and-true true = refl
 and-true false = refl
 
 unhindered-entitled : (c : Controller) (n : ℕ) → bit 0 n ≡ 0 → entitled (unhindered c) n ≡ requests c n
-unfolding entitled requests active counted
+unfolding entitled requests active requestCounts
 unhindered-entitled c n free =
     let on : bit (64 * (c .command / 64)) 2 ≡ 0 = omega arith in
     let level : bit (64 * (c .command / 64)) 6 ≡ bit (c .command) 6 = omega arith in
