@@ -9,7 +9,15 @@ mkdir -p dist/lib/pkgconfig dist/include
 cp target/staticlib/libhost.a dist/lib/libam9517.a
 cp include/am9517.h dist/include/
 cp LICENSE dist/LICENSE
-cp docs/HOST.md dist/README
+cat > dist/README <<'TEXT'
+One Am9517A DMA controller in software, proved: the C library.
+
+    cc -O2 -Iinclude -o host host.c lib/libam9517.a
+    cc host.c $(PKG_CONFIG_PATH=lib/pkgconfig pkg-config --cflags --libs am9517)
+
+include/am9517.h has the contract of each call, the refusal numbers and the end reasons.
+x86-64 Linux; of the C library the archive wants memset alone. Licence: LICENSE.
+TEXT
 cat > dist/lib/pkgconfig/am9517.pc <<'PC'
 prefix=${pcfiledir}/../..
 libdir=${prefix}/lib

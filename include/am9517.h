@@ -7,10 +7,10 @@
  *     uint8_t state[AM9517_STATE_SIZE];
  *     am9517_fresh(state, sizeof state);
  *
- * It can be copied, kept in a file and sent as it is. Every call checks it first, then does its work, then writes
- * it back whole. A damaged state is refused by its number (9 to 14) instead of running wild. The library keeps
- * nothing of its own between two calls: it has no variables and allocates nothing, so calls on different states may
- * run at the same time.
+ * It can be copied, kept in a file and sent as it is. Every call but am9517_fresh checks it first; a call that changes
+ * it writes it back whole. A state whose form, sum or ranges are broken is refused by its number (9 to 14) instead of
+ * running wild; damage that keeps all of these can't be seen. The library keeps nothing of its own between two calls: it
+ * has no variables and allocates nothing, so calls that share no state, memory or room may run at the same time.
  *
  * REFUSALS. Each call answers a refusal number, 0 for none. The state's own come first (AM9517_SHEET_SHORT to
  * AM9517_RANGE), then the operation's in document 01's order. A refused call changes no byte of state, memory or
@@ -131,7 +131,7 @@ am9517_told am9517_entitled(const uint8_t *state, size_t state_size);
  * a service. Clears nothing. Refusals: 9 to 14. */
 am9517_told am9517_status(const uint8_t *state, size_t state_size);
 
-/* Runs the open service over a memory of 65,536 bytes: at most `limit` transfers; the transfer numbered `eop_at`
+/* Runs the open service over a memory of 65,536 bytes: at most `limit` transfers; the transfer of this call numbered `eop_at`
  * (from 1; 0: none) meets external EOP. Bytes for memory are taken from `device`, bytes from memory are put into
  * `room`; room behind the last byte written isn't touched. After "limit" or "short" call again with what is left
  * of device and room. Refusals: 9 to 14, then 7, 8. */

@@ -9,7 +9,7 @@ use text::line::same;
 // No answer is longer than this: 70,000 bytes as digits, a word and a newline.
 const ANSWER: usize = 150000;
 
-// The session after a read, and whether more may come.
+// The session after a read, and whether more is to come: not after the end, and not where reading or writing failed.
 struct Turn {
     session: Session,
     is_more: bool,
@@ -21,27 +21,43 @@ fn complain(what: &[u8]) {
     os::fail(what);
 }
 
-// Writes the answers that wait: none waits after it.
-fn flush(out: &[u8], waiting: usize) -> usize {
+// Writes the answers that wait, none of which waits after it; where that fails, nothing is left to be done.
+fn flush(session: Session, out: &[u8]) -> Turn {
+    let waiting = session.waiting;
+    let mut next = session;
+    next.waiting = 0;
     if out.len() < waiting {
-        return 0;
+        return Turn {
+            session: next,
+            is_more: true,
+        };
     }
-    if !io::write_all(STDOUT_FILENO, &out[0..waiting]) {
+    let is_more = io::write_all(STDOUT_FILENO, &out[0..waiting]);
+    if !is_more {
         complain(b"standard output");
+        next.length = 0;
     }
-    0
+    Turn {
+        session: next,
+        is_more,
+    }
 }
 
 // Sees to it that an answer has room.
-fn with_room(session: Session, out: &[u8]) -> Session {
-    let mut next = session;
+fn with_room(session: Session, out: &[u8]) -> Turn {
     if out.len() < ANSWER {
-        return next;
+        return Turn {
+            session,
+            is_more: true,
+        };
     }
     if out.len() - ANSWER < session.waiting {
-        next.waiting = flush(out, session.waiting);
+        return flush(session, out);
     }
-    next
+    Turn {
+        session,
+        is_more: true,
+    }
 }
 
 // Takes a part of the script, line by line.
@@ -54,7 +70,7 @@ fn feed_all(
     room: &mut [u8],
     spare: &mut [u8],
     out: &mut [u8],
-) -> Session {
+) -> Turn {
     let mut now = session;
     let mut from = 0;
     // each turn takes a byte at least, so there are no more turns than bytes
@@ -65,11 +81,15 @@ fn feed_all(
             break;
         }
         let ready = with_room(now, out);
-        let fed = feed(ready, part, from, line, memory, queue, room, spare, out);
+        if !ready.is_more {
+            return ready;
+        }
+        let next = ready.session;
+        let fed = feed(next, part, from, line, memory, queue, room, spare, out);
         from = fed.taken;
         now = fed.session;
     }
-    now
+    flush(now, out)
 }
 
 // A person is asked for the next line, unless one is under way.
@@ -95,20 +115,22 @@ fn read_once(
     let got = libc::read(fd, part);
     if got < 0 {
         complain(name);
+        // what came of a line before the failure is no line
+        let mut cut = session;
+        cut.length = 0;
+        return Turn {
+            session: cut,
+            is_more: false,
+        };
     }
-    if got <= 0 {
+    if got == 0 {
         return Turn {
             session,
             is_more: false,
         };
     }
     let n = io::count(got, part);
-    let mut next = feed_all(session, &part[0..n], line, memory, queue, room, spare, out);
-    next.waiting = flush(out, next.waiting);
-    Turn {
-        session: next,
-        is_more: true,
-    }
+    feed_all(session, &part[0..n], line, memory, queue, room, spare, out)
 }
 
 // Runs the script to its end. A proved loop has to end, and nothing says that a file does: the turns count down, from a
@@ -154,8 +176,7 @@ fn run(
     // the last line may lack its newline
     let last = now.session;
     let ended = feed(last, b"\n", 0, line, memory, queue, room, spare, out);
-    let end = ended.session;
-    flush(out, end.waiting);
+    flush(ended.session, out);
 }
 
 // Makes the arrays, once, and runs the script.
