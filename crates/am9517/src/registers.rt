@@ -8,7 +8,9 @@ use words::bytes::with_byte;
 use words::choice::when;
 use words::choice::when_word;
 ghost use mathlib.Core.Path.{_≡_};
-ghost use Prim.Native.Nat.{_<_, _≤_};
+ghost use Prim.Native.Nat.{_<_, _≤_, _%_};
+ghost use lib.Dec.{eqb};
+ghost use Rattle.words.specs.Choice.{when};
 ghost use Rattle.am9517.specs.Registers.{turnedOver, withAddressByte, withCountByte, portWritten, portRead, modeWritten, afterWrite, value, afterRead};
 
 impl Channel {
@@ -29,6 +31,17 @@ impl Channel {
         next.count = with_byte(self.count, high, b);
         next
     }
+
+    // A byte of the address where reg is even, of the count where it is odd.
+    fn port_written(self, reg: u32, high: bool, b: u8) -> Channel
+        ensures { λ r. ⌜ r ≡ when (eqb (reg % 2) 0) (withAddressByte self high b) (withCountByte self high b) ⌝ }
+    {
+        if reg % 2 == 0 {
+            self.with_address_byte(high, b)
+        } else {
+            self.with_count_byte(high, b)
+        }
+    }
 }
 
 impl Controller {
@@ -45,16 +58,13 @@ impl Controller {
         requires { ⌜ reg < 8 ⌝ }
         ensures { λ r. ⌜ r ≡ portWritten self reg byte ⌝ }
     {
-        let n = (reg / 2) as usize;
         let high = self.flip_flop == 1;
-        let was = self.channels[n];
         let mut next = self.turned_over();
-        if reg % 2 == 0 {
-            let now = was.with_address_byte(high, byte);
-            next.channels[n] = now;
-        } else {
-            let now = was.with_count_byte(high, byte);
-            next.channels[n] = now;
+        match reg / 2 {
+            0 => next.channels[0] = self.channels[0].port_written(reg, high, byte),
+            1 => next.channels[1] = self.channels[1].port_written(reg, high, byte),
+            2 => next.channels[2] = self.channels[2].port_written(reg, high, byte),
+            _ => next.channels[3] = self.channels[3].port_written(reg, high, byte),
         }
         next
     }
@@ -72,11 +82,15 @@ impl Controller {
     fn mode_written(self, byte: u8) -> Controller
         ensures { λ r. ⌜ r ≡ modeWritten self byte ⌝ }
     {
-        let n = (byte % 4) as usize;
-        let mut c = self.channels[n];
-        c.mode = byte - byte % 4;
+        let n = byte % 4;
+        let mode = byte - n;
         let mut next = self;
-        next.channels[n] = c;
+        match n {
+            0 => next.channels[0].mode = mode,
+            1 => next.channels[1].mode = mode,
+            2 => next.channels[2].mode = mode,
+            _ => next.channels[3].mode = mode,
+        }
         next
     }
 
