@@ -2,3 +2,4 @@
 pub mod StateLaws
 pub mod KeepLaws
 pub mod RefusalLaws
+pub mod TestLaws

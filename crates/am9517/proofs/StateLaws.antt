@@ -88,11 +88,11 @@ of-unless : (a b : Bool) → (a ≡ true → b ≡ true) → not a || b ≡ true
 of-unless true b h = h refl
 of-unless false b h = refl
 
-and-left : (a b : Bool) → a && b ≡ true → a ≡ true
+pub and-left : (a b : Bool) → a && b ≡ true → a ≡ true
 and-left true b e = refl
 and-left false b e = e
 
-and-right : (a b : Bool) → a && b ≡ true → b ≡ true
+pub and-right : (a b : Bool) → a && b ≡ true → b ≡ true
 and-right true b e = e
 and-right false b e = never (sym e)
 

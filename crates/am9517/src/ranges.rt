@@ -2,29 +2,29 @@
 use crate::Controller;
 ghost use mathlib.Core.Path.{_≡_};
 ghost use Rattle.am9517.specs.Modes.{modeRefused};
-ghost use Rattle.am9517.specs.Ranges.{modeValid, modesValid, fieldsValid, serviceValid, valid};
+ghost use Rattle.am9517.specs.Ranges.{modesValid, fieldsValid, serviceValid, valid};
 
 pub(crate) fn mode_refused(mode: u8) -> bool
     ensures { λ r. ⌜ r ≡ modeRefused mode ⌝ }
 {
-    (mode / 4 % 4 == 3) & (mode / 64 != 3)
-}
-
-fn mode_valid(mode: u8) -> bool
-    ensures { λ r. ⌜ r ≡ modeValid mode ⌝ }
-{
-    (mode % 4 == 0) & !mode_refused(mode)
+    // Bit n is set where n * 4 is refused: one look tells it, with no branch.
+    let refused: u64 = 0x888888888888;
+    let n = (mode / 4) as usize;
+    (refused >> n) % 2 == 1
 }
 
 impl Controller {
     fn modes_valid(self) -> bool
         ensures { λ r. ⌜ r ≡ modesValid self ⌝ }
     {
-        let first = mode_valid(self.channels[0].mode);
-        let second = mode_valid(self.channels[1].mode);
-        let third = mode_valid(self.channels[2].mode);
-        let fourth = mode_valid(self.channels[3].mode);
-        first & (second & (third & fourth))
+        let first = self.channels[0].mode;
+        let second = self.channels[1].mode;
+        let third = self.channels[2].mode;
+        let fourth = self.channels[3].mode;
+        let low = (first % 4 == 0) & ((second % 4 == 0) & ((third % 4 == 0) & (fourth % 4 == 0)));
+        let refused = mode_refused(first)
+            | (mode_refused(second) | (mode_refused(third) | mode_refused(fourth)));
+        low & !refused
     }
 
     fn fields_valid(self) -> bool
