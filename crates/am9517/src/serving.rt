@@ -97,10 +97,11 @@ impl Controller {
         let second = self.asked(1);
         let third = self.asked(2);
         let fourth = self.asked(3);
-        let n = when(self.entitled(fourth as usize), fourth, 4);
-        let n = when(self.entitled(third as usize), third, n);
-        let n = when(self.entitled(second as usize), second, n);
-        when(self.entitled(first as usize), first, n)
+        let set = self.entitled_set();
+        let n = when(bit(set, fourth as usize) == 1, fourth, 4);
+        let n = when(bit(set, third as usize) == 1, third, n);
+        let n = when(bit(set, second as usize) == 1, second, n);
+        when(bit(set, first as usize) == 1, first, n)
     }
 
     // The service of channel n begins.
