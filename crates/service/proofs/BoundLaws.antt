@@ -34,7 +34,7 @@ pub least-first : (a b : ℕ) → a ≤ b → least a b ≡ a
 unfolding least
 least-first a b h = when-each (λ (x : ℕ). x ≡ a) (ltb a b) (λ e. refl) (λ e. omega (arith, ltb-false a b e))
 
-least-both : (P : ℕ → Type 0) (a b : ℕ) → P a → P b → P (least a b)
+pub least-both : (P : ℕ → Type 0) (a b : ℕ) → P a → P b → P (least a b)
 unfolding least
 least-both P a b h g = when-both P (ltb a b) h g
 

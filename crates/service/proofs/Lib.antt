@@ -8,6 +8,8 @@ pub mod WayLaws
 pub mod ServiceLaws
 pub mod CopyLaws
 pub mod TripLaws
+pub mod RestLaws
+pub mod WholeLaws
 pub mod AnswerLaws
 pub mod KeepLaws
 pub mod StateLaws

@@ -219,3 +219,12 @@ module _ (c : Controller) (m d r : List ℕ) where
       go (suc j) h =
           let e = add-one j in
           rw (reached-some (suc j) (omega arith), reached-some (suc j + 1) (omega arith), ← e) (one-more j (λ z. omega arith))
+
+-- the byte of one transfer alone
+pub one-stored : (ch : Channel) (d m : List ℕ) (n : ℕ) → n ≡ 1 → ch .address < 65536 → writes ch ≡ true → set m (ch .address) (getD d 0 0) ≡ when (writes ch) (spread (along ch) (λ (j : ℕ). j) d m n) m
+unfolding when spread
+one-stored ch d m n one h w = rw (one, w) (ap (λ (a : ℕ). set m a (getD d 0 0)) (sym (along-none ch h)))
+
+pub one-loaded : (ch : Channel) (m r : List ℕ) (n : ℕ) → n ≡ 1 → ch .address < 65536 → reads ch ≡ true → set r 0 (getD m (ch .address) 0) ≡ when (reads ch) (spread (λ (j : ℕ). j) (along ch) m r n) r
+unfolding when spread
+one-loaded ch m r n one h w = rw (one, w) (ap (λ (a : ℕ). set r 0 (getD m a 0)) (sym (along-none ch h)))

@@ -9,4 +9,5 @@ pub mod Run
 pub mod Answers
 -- help for laws and private contracts: no rule stands there
 pub mod Closed
+pub mod Whole
 pub mod Needs

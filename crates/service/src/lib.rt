@@ -17,6 +17,11 @@ mod ends;
 mod moving;
 mod serving;
 mod stretch;
+mod whole;
+
+pub use whole::Rest;
+pub use whole::Whole;
+pub use whole::serve_whole;
 
 // Why a run stopped.
 pub enum Reason {

@@ -36,7 +36,7 @@ pub(crate) fn onward(ch: Channel, n: u64) -> Channel
 }
 
 // The pages entered by n steps from an address.
-fn entered(down: bool, address: u16, n: u64) -> u64
+pub(crate) fn entered(down: bool, address: u16, n: u64) -> u64
     requires { ⌜ n ≤ 65536 ⌝ }
     ensures { λ r. ⌜ (r ≡ entered down address n) × (r ≤ 257) ⌝ }
 {
@@ -84,17 +84,26 @@ fn moved_on(c: Controller, n: u64) -> Controller
 }
 
 // The bytes of n transfers.
-fn move_bytes(ch: Channel, memory: &mut [u8], device: &[u8], room: &mut [u8], n: usize)
+pub(crate) fn move_bytes(ch: Channel, memory: &mut [u8], device: &[u8], room: &mut [u8], n: usize)
     requires { ⌜ Stocked ch (now memory) (now device) (now room) n ⌝ }
     ensures { λ _. ⌜ now (memory .exit) ≡ when (writes ch) (spread (along ch) (λ (j : ℕ). j) (now (device .entry)) (now (memory .entry)) n) (now (memory .entry)) ⌝ }
     ensures room { λ _. ⌜ now (room .exit) ≡ when (reads ch) (spread (λ (j : ℕ). j) (along ch) (now (memory .entry)) (now (room .entry)) n) (now (room .entry)) ⌝ }
 {
     let kind = ch.mode / 4 % 4;
     let down = ch.mode / 32 % 2 == 1;
+    let at = ch.address as usize;
     if kind == 1 {
-        store(memory, down, ch.address as usize, device, n);
+        if n == 1 {
+            memory[at] = device[0];
+        } else {
+            store(memory, down, at, device, n);
+        }
     } else if kind == 2 {
-        load(memory, down, ch.address as usize, room, n);
+        if n == 1 {
+            room[0] = memory[at];
+        } else {
+            load(memory, down, at, room, n);
+        }
     }
 }
 
