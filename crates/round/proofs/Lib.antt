@@ -5,3 +5,4 @@ pub mod SingleLaws
 pub mod RollLaws
 pub mod LoneLaws
 pub mod AnswerLaws
+pub mod StreakLaws

@@ -159,7 +159,7 @@ turn-of-lone t m d r ready n is lone below small =
     rw is (lone-turn t m d r ready lone' below' small', lone-served t m d r ready lone' below' small')
 
 -- who is next, told once for each lowest channel
-nexts-are : (c : Controller) (l : ℕ) → l < 4 → getD (nextsOf c) l 0 ≡ picked (put c Lowest l)
+pub nexts-are : (c : Controller) (l : ℕ) → l < 4 → getD (nextsOf c) l 0 ≡ picked (put c Lowest l)
 nexts-are c l h = below4 (λ (i : ℕ). getD (nextsOf c) i 0 ≡ picked (put c Lowest i)) refl refl refl refl l h
 
 plain-both : (P : ℕ → Type 0) (c : Controller) → P 2 → P 3 → P (statesWithoutS1 c)

@@ -15,7 +15,7 @@ use Rattle.round.specs.declared.Totals.{Totals}
 use Rattle.round.specs.declared.RoundAnswer.the-variants.{Done, Quiet, Stopped}
 use Rattle.round.specs.declared.Next.{Next}
 use Rattle.round.specs.declared.Next.the-variants as next
-use Rattle.round.specs.Round.{Course, Close, close, beginning, nobody, runNext, afterNext, isEnded, roundOf}
+use Rattle.round.specs.Round.{Course, Close, close, beginning, nobody, runNext, isEnded, roundOf}
 use Rattle.round.specs.Needs.{courseOf, startTotals, Turned, turned, turnOf, Ready, Served, Rolling}
 use Rattle.words.proofs.ChoiceLaws.{when-map}
 

@@ -48,16 +48,16 @@ module _ (c : Controller) (chs : List Channel) (l : ℕ) (modes : (i : ℕ) → 
       simp (entitled-same (asked s 0), entitled-same (asked s 1), entitled-same (asked s 2), entitled-same (asked s 3))
 
 -- the controller at rest has nothing of a service
-abbrev withRest : Controller → ℕ → ℕ → ℕ → ℕ → Controller
-withRest c a b d e = put (put (put (put c InService a) Serving b) LatchFull d) Latch e
+abbrev pub idled : Controller → ℕ → ℕ → ℕ → ℕ → Controller
+idled c a b d e = put (put (put (put c InService a) Serving b) LatchFull d) Latch e
 
-at-rest : (c : Controller) → Ranges c → c .«in_service» ≡ 0 → withRest c 0 0 0 0 ≡ c
+pub at-rest : (c : Controller) → Ranges c → c .«in_service» ≡ 0 → idled c 0 0 0 0 ≡ c
 at-rest c ranges idle =
     let z = ranges .rest idle in
-    ap (λ (x : ℕ). withRest c x 0 0 0) (sym idle)
-    ∙ ap (λ (x : ℕ). withRest c (c .«in_service») x 0 0) (sym (z .0))
-    ∙ ap (λ (x : ℕ). withRest c (c .«in_service») (c .serving) x 0) (sym (z .1))
-    ∙ ap (λ (x : ℕ). withRest c (c .«in_service») (c .serving) (c .«latch_full») x) (sym (ranges .latch (z .1)))
+    ap (λ (x : ℕ). idled c x 0 0 0) (sym idle)
+    ∙ ap (λ (x : ℕ). idled c (c .«in_service») x 0 0) (sym (z .0))
+    ∙ ap (λ (x : ℕ). idled c (c .«in_service») (c .serving) x 0) (sym (z .1))
+    ∙ ap (λ (x : ℕ). idled c (c .«in_service») (c .serving) (c .«latch_full») x) (sym (ranges .latch (z .1)))
 
 -- One lone service of channel n, over a memory, device bytes and room.
 module _ (c : Controller) (ranges : Ranges c) (idle : c .«in_service» ≡ 0) (n : ℕ) (m d r : List ℕ) (lone : Lone n (channel c n) (c .command) (length d) (length r))
@@ -118,7 +118,7 @@ module _ (c : Controller) (ranges : Ranges c) (idle : c .«in_service» ≡ 0) (
   pub controller-lone : behind .controller ≡ resting c (set (c .channels) n (stepped ch)) lowered
   unfolding granted
   controller-lone =
-      ap (λ (x : Channel). withRest (resting c (set (c .channels) n x) lowered) 0 0 0 0) (sym (stepped-first ch))
+      ap (λ (x : Channel). idled (resting c (set (c .channels) n x) lowered) 0 0 0 0) (sym (stepped-first ch))
       ∙ ap (λ (x : Controller). resting x (set (c .channels) n (stepped ch)) lowered) (at-rest c ranges idle)
 
   -- what it counts: the latch is empty after a grant

@@ -4,3 +4,4 @@ pub mod Answers
 -- help for laws and private contracts: no rule stands there
 pub mod Needs
 pub mod Singles
+pub mod Streak

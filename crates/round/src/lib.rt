@@ -16,10 +16,11 @@ ghost use Rattle.am9517.specs.Refusals.{refusal};
 ghost use Rattle.am9517.specs.Serving.{picked, granted};
 ghost use Rattle.round.specs.Round.{beginning, nobody, isEnded, close, roundOf};
 ghost use Rattle.round.specs.Answers.{roundGiven, closed, roundGrounds, roundedOf};
-ghost use Rattle.round.specs.Needs.{courseOf, startTotals, addedTo, handedOn, turned, turnOf, Ready, Roomy, Served};
+ghost use Rattle.round.specs.Needs.{Rolling, courseOf, startTotals, addedTo, handedOn, turned, turnOf, Ready, Roomy, Served};
 ghost use Rattle.service.specs.Answers.{given};
 
 mod singles;
+mod streak;
 
 // Why a round stopped: k services begun, nobody entitled, a run that did not end; or the number of its refusal.
 pub enum RoundAnswer {
@@ -198,13 +199,23 @@ fn round_refusal(c: Controller, memory: &[u8], k: u32) -> u8
     when(!c.valid(), 1, no)
 }
 
+// The services that come next and are made without the state going round: single ones without TC, then whole ones.
+fn quick(t: Totals, memory: &mut [u8], device: &[u8], room: &mut [u8], k: u32) -> Totals
+    requires { ⌜ Rolling k (now device) (length (now room)) (roundOf (k - t .begun) (now device) (courseOf t (now memory) (now room))) t (now memory) (now room) ⌝ }
+    ensures { λ r. ⌜ Rolling k (now (device .entry)) (length (now (room .entry))) (roundOf (k - t .begun) (now (device .entry)) (courseOf t (now (memory .entry)) (now (room .entry)))) r (now (memory .exit)) (now (room .exit)) ⌝ }
+    ensures on { λ r. ⌜ t .begun ≤ r .begun ⌝ }
+{
+    let u = singles::singles(t, memory, device, room, k);
+    streak::streak(u, memory, device, room, k)
+}
+
 fn rounds(c: Controller, memory: &mut [u8], device: &[u8], room: &mut [u8], k: u32) -> Rounded
     requires { ⌜ (valid c ≡ true) × (c .«in_service» ≡ 0) × (length (now memory) ≡ 65536) × (k ≤ 4096) ⌝ }
     ensures { λ r. ⌜ roundGiven r (now (memory .exit)) (now (room .exit)) ≡ closed (roundOf k (now (device .entry)) (beginning c (now (memory .entry)) (now (room .entry)))) ⌝ }
 {
     let mut t = start_of(c);
     loop {
-        t = singles::singles(t, memory, device, room, k);
+        t = quick(t, memory, device, room, k);
         if t.begun == k {
             return closed(t, RoundAnswer::Done);
         }

@@ -28,7 +28,7 @@ fn picked_after(c: Controller, lowest: u8) -> u8
     next.picked()
 }
 
-fn nexts(c: Controller) -> [u8; 4]
+pub(crate) fn nexts(c: Controller) -> [u8; 4]
     ensures { λ r. ⌜ r ≡ nextsOf c ⌝ }
 {
     [

@@ -22,32 +22,32 @@ start-of-requires c κs = tt
 loop-holds : tie.Need-loop-holds Inv-loop μ-loop
 loop-holds c = rolling-start _ _ _ _ _ _ (c .start-of .ensures) (c .before .before .before .before .pre .0) (c .before .before .before .before .pre .1) (c .before .before .before .before .pre .2) (c .before .before .before .before .pre .3)
 
-singles-requires : tie.Need-singles-requires Inv-loop μ-loop
-singles-requires c κs = rolling-here _ _ _ _ _ _ _ (c .before .before .loop .inv)
+quick-requires : tie.Need-quick-requires Inv-loop μ-loop
+quick-requires c κs = rolling-here _ _ _ _ _ _ _ (c .before .before .loop .inv)
 
 closed-requires : tie.Need-closed-requires Inv-loop μ-loop
 closed-requires c κs = tt
 
 same-length : tie.Need-same-length Inv-loop μ-loop
-same-length c = omega (arith, c .before .before .before .before .before .before .before .singles .ensures .0 .memory, c .before .before .before .before .before .before .before .before .before .before .before .before .before .before .before .pre .2)
+same-length c = omega (arith, c .before .before .before .before .before .before .before .quick .ensures .0 .memory, c .before .before .before .before .before .before .before .before .before .before .before .before .before .before .before .pre .2)
 
 same-length-2 : tie.Need-same-length-2 Inv-loop μ-loop
-same-length-2 c = omega (arith, c .before .before .before .before .before .before .before .singles .ensures .0 .room, c .before .before .before .before .before .before .before .before .before .before .loop .inv .room)
+same-length-2 c = omega (arith, c .before .before .before .before .before .before .before .quick .ensures .0 .room, c .before .before .before .before .before .before .before .before .before .before .loop .inv .room)
 
 returns : tie.Need-returns Inv-loop μ-loop
-returns c = c .closed .ensures _ _ ∙ ap closed (rolling-done _ _ _ _ _ _ _ (rolling-then _ _ _ _ _ _ _ (c .before .before .before .before .before .before .before .before .before .before .loop .inv) (c .before .before .before .before .before .before .before .singles .result) _ _ (c .before .before .before .before .before .before .before .singles .ensures .0)) (c .before .if1 .taken) ∙ from-start _ _ _ _ _ _ (c .before .before .before .before .before .before .before .before .before .before .before .start-of .ensures))
+returns c = c .closed .ensures _ _ ∙ ap closed (rolling-done _ _ _ _ _ _ _ (rolling-then _ _ _ _ _ _ _ (c .before .before .before .before .before .before .before .before .before .before .loop .inv) (c .before .before .before .before .before .before .before .quick .result) _ _ (c .before .before .before .before .before .before .before .quick .ensures .0)) (c .before .if1 .taken) ∙ from-start _ _ _ _ _ _ (c .before .before .before .before .before .before .before .before .before .before .before .start-of .ensures))
 
 turn-of-requires : tie.Need-turn-of-requires Inv-loop μ-loop
-turn-of-requires c κs = rolling-ready _ _ _ _ _ _ _ (rolling-then _ _ _ _ _ _ _ (c .before .before .before .before .before .before .before .before .before .before .before .loop .inv) (c .before .before .before .before .before .before .before .before .singles .result) _ _ (c .before .before .before .before .before .before .before .before .singles .ensures .0)) (c .before .before .if1 .left)
+turn-of-requires c κs = rolling-ready _ _ _ _ _ _ _ (rolling-then _ _ _ _ _ _ _ (c .before .before .before .before .before .before .before .before .before .before .before .loop .inv) (c .before .before .before .before .before .before .before .before .quick .result) _ _ (c .before .before .before .before .before .before .before .before .quick .ensures .0)) (c .before .before .if1 .left)
 
 enum-told : tie.Need-enum-told Inv-loop μ-loop
 enum-told c = search needs
 
 loop-less : tie.Need-loop-less Inv-loop μ-loop
-loop-less c = omega (arith, c .before .before .before .before .before .before .before .before .before .before .before .before .before .before .before .before .singles .ensures .1, c .before .before .before .before .before .before .before .before .before .before .before .before .before .before .before .before .singles .ensures .0 .begun, rolling-falls _ _ _ _ _ _ _ (rolling-then _ _ _ _ _ _ _ (c .before .before .before .before .before .before .before .before .before .before .before .before .before .before .before .before .before .before .before .loop .inv) (c .before .before .before .before .before .before .before .before .before .before .before .before .before .before .before .before .singles .result) _ _ (c .before .before .before .before .before .before .before .before .before .before .before .before .before .before .before .before .singles .ensures .0)) (c .before .before .before .before .before .before .before .before .before .before .if1 .left) (c .before .before .before .before .before .before .before .turn-of .result .totals) _ _ _ (c .before .before .before .before .before .before .before .turn-of .ensures .0) (c .enum-told .given .1) (c .before .before .before .before .before .before .before .turn-of .ensures .1), rolling-on _ _ _ _ _ _ _ (rolling-then _ _ _ _ _ _ _ (c .before .before .before .before .before .before .before .before .before .before .before .before .before .before .before .before .before .before .before .loop .inv) (c .before .before .before .before .before .before .before .before .before .before .before .before .before .before .before .before .singles .result) _ _ (c .before .before .before .before .before .before .before .before .before .before .before .before .before .before .before .before .singles .ensures .0)) (c .before .before .before .before .before .before .before .before .before .before .if1 .left) (c .before .before .before .before .before .before .before .turn-of .result .totals) _ _ _ (c .before .before .before .before .before .before .before .turn-of .ensures .0) (c .enum-told .given .1) (c .before .before .before .before .before .before .before .turn-of .ensures .1) (c .before .before .before .before .before .before .before .turn-of .kept .1 .0) (c .before .before .before .before .before .before .before .turn-of .kept .1 .1 .1 .0) .begun)
+loop-less c = omega (arith, c .before .before .before .before .before .before .before .before .before .before .before .before .before .before .before .before .quick .ensures .1, c .before .before .before .before .before .before .before .before .before .before .before .before .before .before .before .before .quick .ensures .0 .begun, rolling-falls _ _ _ _ _ _ _ (rolling-then _ _ _ _ _ _ _ (c .before .before .before .before .before .before .before .before .before .before .before .before .before .before .before .before .before .before .before .loop .inv) (c .before .before .before .before .before .before .before .before .before .before .before .before .before .before .before .before .quick .result) _ _ (c .before .before .before .before .before .before .before .before .before .before .before .before .before .before .before .before .quick .ensures .0)) (c .before .before .before .before .before .before .before .before .before .before .if1 .left) (c .before .before .before .before .before .before .before .turn-of .result .totals) _ _ _ (c .before .before .before .before .before .before .before .turn-of .ensures .0) (c .enum-told .given .1) (c .before .before .before .before .before .before .before .turn-of .ensures .1), rolling-on _ _ _ _ _ _ _ (rolling-then _ _ _ _ _ _ _ (c .before .before .before .before .before .before .before .before .before .before .before .before .before .before .before .before .before .before .before .loop .inv) (c .before .before .before .before .before .before .before .before .before .before .before .before .before .before .before .before .quick .result) _ _ (c .before .before .before .before .before .before .before .before .before .before .before .before .before .before .before .before .quick .ensures .0)) (c .before .before .before .before .before .before .before .before .before .before .if1 .left) (c .before .before .before .before .before .before .before .turn-of .result .totals) _ _ _ (c .before .before .before .before .before .before .before .turn-of .ensures .0) (c .enum-told .given .1) (c .before .before .before .before .before .before .before .turn-of .ensures .1) (c .before .before .before .before .before .before .before .turn-of .kept .1 .0) (c .before .before .before .before .before .before .before .turn-of .kept .1 .1 .1 .0) .begun)
 
 loop-again : tie.Need-loop-again Inv-loop μ-loop
-loop-again c = rolling-on _ _ _ _ _ _ _ (rolling-then _ _ _ _ _ _ _ (c .before .before .before .before .before .before .before .before .before .before .before .before .before .before .before .before .before .before .before .loop .inv) (c .before .before .before .before .before .before .before .before .before .before .before .before .before .before .before .before .singles .result) _ _ (c .before .before .before .before .before .before .before .before .before .before .before .before .before .before .before .before .singles .ensures .0)) (c .before .before .before .before .before .before .before .before .before .before .if1 .left) (c .before .before .before .before .before .before .before .turn-of .result .totals) _ _ _ (c .before .before .before .before .before .before .before .turn-of .ensures .0) (c .enum-told .given .1) (c .before .before .before .before .before .before .before .turn-of .ensures .1) (c .before .before .before .before .before .before .before .turn-of .kept .1 .0) (c .before .before .before .before .before .before .before .turn-of .kept .1 .1 .1 .0)
+loop-again c = rolling-on _ _ _ _ _ _ _ (rolling-then _ _ _ _ _ _ _ (c .before .before .before .before .before .before .before .before .before .before .before .before .before .before .before .before .before .before .before .loop .inv) (c .before .before .before .before .before .before .before .before .before .before .before .before .before .before .before .before .quick .result) _ _ (c .before .before .before .before .before .before .before .before .before .before .before .before .before .before .before .before .quick .ensures .0)) (c .before .before .before .before .before .before .before .before .before .before .if1 .left) (c .before .before .before .before .before .before .before .turn-of .result .totals) _ _ _ (c .before .before .before .before .before .before .before .turn-of .ensures .0) (c .enum-told .given .1) (c .before .before .before .before .before .before .before .turn-of .ensures .1) (c .before .before .before .before .before .before .before .turn-of .kept .1 .0) (c .before .before .before .before .before .before .before .turn-of .kept .1 .1 .1 .0)
 
 enum-told-2 : tie.Need-enum-told-2 Inv-loop μ-loop
 enum-told-2 c = search needs
@@ -56,13 +56,13 @@ closed-requires-2 : tie.Need-closed-requires-2 Inv-loop μ-loop
 closed-requires-2 c κs = tt
 
 same-length-3 : tie.Need-same-length-3 Inv-loop μ-loop
-same-length-3 c = omega (arith, c .before .before .before .before .before .before .before .before .turn-of .kept .1 .0, c .before .before .before .before .before .before .before .before .before .before .before .before .before .before .before .before .before .singles .ensures .0 .memory, c .before .before .before .before .before .before .before .before .before .before .before .before .before .before .before .before .before .before .before .before .before .before .before .before .before .pre .2)
+same-length-3 c = omega (arith, c .before .before .before .before .before .before .before .before .turn-of .kept .1 .0, c .before .before .before .before .before .before .before .before .before .before .before .before .before .before .before .before .before .quick .ensures .0 .memory, c .before .before .before .before .before .before .before .before .before .before .before .before .before .before .before .before .before .before .before .before .before .before .before .before .before .pre .2)
 
 same-length-4 : tie.Need-same-length-4 Inv-loop μ-loop
-same-length-4 c = omega (arith, c .before .before .before .before .before .before .before .before .turn-of .kept .1 .1 .1 .0, c .before .before .before .before .before .before .before .before .before .before .before .before .before .before .before .before .before .singles .ensures .0 .room, c .before .before .before .before .before .before .before .before .before .before .before .before .before .before .before .before .before .before .before .before .loop .inv .room)
+same-length-4 c = omega (arith, c .before .before .before .before .before .before .before .before .turn-of .kept .1 .1 .1 .0, c .before .before .before .before .before .before .before .before .before .before .before .before .before .before .before .before .before .quick .ensures .0 .room, c .before .before .before .before .before .before .before .before .before .before .before .before .before .before .before .before .before .before .before .before .loop .inv .room)
 
 returns-2 : tie.Need-returns-2 Inv-loop μ-loop
-returns-2 c = c .closed2 .ensures _ _ ∙ ap closed (rolling-quiet _ _ _ _ _ _ _ (rolling-then _ _ _ _ _ _ _ (c .before .before .before .before .before .before .before .before .before .before .before .before .before .before .before .before .before .before .before .before .loop .inv) (c .before .before .before .before .before .before .before .before .before .before .before .before .before .before .before .before .before .singles .result) _ _ (c .before .before .before .before .before .before .before .before .before .before .before .before .before .before .before .before .before .singles .ensures .0)) (c .before .before .before .before .before .before .before .before .before .before .before .if1 .left) (c .before .before .before .before .before .before .before .before .turn-of .result .totals) _ _ _ (c .before .before .before .before .before .before .before .before .turn-of .ensures .0) (c .before .enum-told2 .given .1) ∙ from-start _ _ _ _ _ _ (c .before .before .before .before .before .before .before .before .before .before .before .before .before .before .before .before .before .before .before .before .before .start-of .ensures))
+returns-2 c = c .closed2 .ensures _ _ ∙ ap closed (rolling-quiet _ _ _ _ _ _ _ (rolling-then _ _ _ _ _ _ _ (c .before .before .before .before .before .before .before .before .before .before .before .before .before .before .before .before .before .before .before .before .loop .inv) (c .before .before .before .before .before .before .before .before .before .before .before .before .before .before .before .before .before .quick .result) _ _ (c .before .before .before .before .before .before .before .before .before .before .before .before .before .before .before .before .before .quick .ensures .0)) (c .before .before .before .before .before .before .before .before .before .before .before .if1 .left) (c .before .before .before .before .before .before .before .before .turn-of .result .totals) _ _ _ (c .before .before .before .before .before .before .before .before .turn-of .ensures .0) (c .before .enum-told2 .given .1) ∙ from-start _ _ _ _ _ _ (c .before .before .before .before .before .before .before .before .before .before .before .before .before .before .before .before .before .before .before .before .before .start-of .ensures))
 
 enum-known-next : tie.Need-enum-known-next Inv-loop μ-loop
 enum-known-next c = search needs
@@ -71,13 +71,13 @@ closed-requires-3 : tie.Need-closed-requires-3 Inv-loop μ-loop
 closed-requires-3 c κs = tt
 
 same-length-5 : tie.Need-same-length-5 Inv-loop μ-loop
-same-length-5 c = omega (arith, c .before .before .before .before .before .before .before .before .before .turn-of .kept .1 .0, c .before .before .before .before .before .before .before .before .before .before .before .before .before .before .before .before .before .before .singles .ensures .0 .memory, c .before .before .before .before .before .before .before .before .before .before .before .before .before .before .before .before .before .before .before .before .before .before .before .before .before .before .pre .2)
+same-length-5 c = omega (arith, c .before .before .before .before .before .before .before .before .before .turn-of .kept .1 .0, c .before .before .before .before .before .before .before .before .before .before .before .before .before .before .before .before .before .before .quick .ensures .0 .memory, c .before .before .before .before .before .before .before .before .before .before .before .before .before .before .before .before .before .before .before .before .before .before .before .before .before .before .pre .2)
 
 same-length-6 : tie.Need-same-length-6 Inv-loop μ-loop
-same-length-6 c = omega (arith, c .before .before .before .before .before .before .before .before .before .turn-of .kept .1 .1 .1 .0, c .before .before .before .before .before .before .before .before .before .before .before .before .before .before .before .before .before .before .singles .ensures .0 .room, c .before .before .before .before .before .before .before .before .before .before .before .before .before .before .before .before .before .before .before .before .before .loop .inv .room)
+same-length-6 c = omega (arith, c .before .before .before .before .before .before .before .before .before .turn-of .kept .1 .1 .1 .0, c .before .before .before .before .before .before .before .before .before .before .before .before .before .before .before .before .before .before .quick .ensures .0 .room, c .before .before .before .before .before .before .before .before .before .before .before .before .before .before .before .before .before .before .before .before .before .loop .inv .room)
 
 returns-3 : tie.Need-returns-3 Inv-loop μ-loop
-returns-3 c = c .closed3 .ensures _ _ ∙ ap closed (rolling-stopped _ _ _ _ _ _ _ (rolling-then _ _ _ _ _ _ _ (c .before .before .before .before .before .before .before .before .before .before .before .before .before .before .before .before .before .before .before .before .before .loop .inv) (c .before .before .before .before .before .before .before .before .before .before .before .before .before .before .before .before .before .before .singles .result) _ _ (c .before .before .before .before .before .before .before .before .before .before .before .before .before .before .before .before .before .before .singles .ensures .0)) (c .before .before .before .before .before .before .before .before .before .before .before .before .if1 .left) (c .before .before .before .before .before .before .before .before .before .turn-of .result .totals) _ _ _ (c .before .before .before .before .before .before .before .before .before .turn-of .ensures .0) _ (c .before .before .next .given .1) ∙ from-start _ _ _ _ _ _ (c .before .before .before .before .before .before .before .before .before .before .before .before .before .before .before .before .before .before .before .before .before .before .start-of .ensures))
+returns-3 c = c .closed3 .ensures _ _ ∙ ap closed (rolling-stopped _ _ _ _ _ _ _ (rolling-then _ _ _ _ _ _ _ (c .before .before .before .before .before .before .before .before .before .before .before .before .before .before .before .before .before .before .before .before .before .loop .inv) (c .before .before .before .before .before .before .before .before .before .before .before .before .before .before .before .before .before .before .quick .result) _ _ (c .before .before .before .before .before .before .before .before .before .before .before .before .before .before .before .before .before .before .quick .ensures .0)) (c .before .before .before .before .before .before .before .before .before .before .before .before .if1 .left) (c .before .before .before .before .before .before .before .before .before .turn-of .result .totals) _ _ _ (c .before .before .before .before .before .before .before .before .before .turn-of .ensures .0) _ (c .before .before .next .given .1) ∙ from-start _ _ _ _ _ _ (c .before .before .before .before .before .before .before .before .before .before .before .before .before .before .before .before .before .before .before .before .before .before .start-of .ensures))
 
 pub rounds-spec : {M : Type 1} → statement M
 rounds-spec =
@@ -87,7 +87,7 @@ rounds-spec =
     μ-loop
     start-of-requires
     loop-holds
-    singles-requires
+    quick-requires
     closed-requires
     same-length
     same-length-2
