@@ -133,9 +133,9 @@ module _ (c : Controller) (m r : List ℕ) where
       ∙ ap (λ (b : ℕ). shape (both 1) b (set m (to .address) b) 1 8) byte
       ∙ ap (λ (a : ℕ). shape (both 1) (moving 0) (set m a (moving 0)) 1 8) place
 
-  pub reached-none : reachedCopying c m r 0 ≡ startOf c m r
+  pub copying-none : reachedCopying c m r 0 ≡ startOf c m r
   unfolding reachedCopying when
-  reached-none = refl
+  copying-none = refl
 
   pub copying-some : (n : ℕ) → 0 < n → reachedCopying c m r n ≡ copiedAll c m r n
   unfolding reachedCopying when
@@ -158,14 +158,14 @@ module _ (c : Controller) (m r : List ℕ) where
     there n nz h = ap (λ (x : Channel). x .count) (got-there n (moving (n - 1)) nz) ∙ onward-count to n ∙ count-left (to .count) n h small
 
     count-after : (n : ℕ) → n ≤ to .count → channel (here n .controller) 1 .count ≡ to .count - n
-    count-after zero h = rw reached-none (omega arith)
+    count-after zero h = rw copying-none (omega arith)
     count-after (suc j) h = rw (copying-some (suc j) (omega arith)) (there (suc j) (λ e. omega arith) h)
 
     reached-more : (n : ℕ) → n ≤ to .count → (d : List ℕ) → transferred (reachedCopying c m r n) d ≡ reachedCopying c m r (n + 1)
     reached-more n h d = transferred-copied 0 d (reachedCopying c m r n) (memoryToMemory-after n ∙ ic) ∙ go n h
       where
         go : (n : ℕ) → n ≤ to .count → copied (reachedCopying c m r n) ≡ reachedCopying c m r (n + 1)
-        go zero h = rw (reached-none, copying-some 1 (omega arith)) (first-copy below goal)
+        go zero h = rw (copying-none, copying-some 1 (omega arith)) (first-copy below goal)
         go (suc j) h =
             let e = add-one j in
             rw (copying-some (suc j) (omega arith), copying-some (suc j + 1) (omega arith), ← e) (one-more j (λ z. omega arith) below)
@@ -201,12 +201,12 @@ module _ (c : Controller) (m r : List ℕ) where
           let u : Until false (to .count) eop n = rw e (until false (to .count) eop) in
           let met : eqb n (to .count + 1) || eqb n eop ≡ true =
           not-false _ (λ z. never (sym (u .last (eqb-false _ _ (neither-left (eqb n (to .count + 1)) (eqb n eop) z)) (eqb-false _ _ (neither-right (eqb n (to .count + 1)) (eqb n eop) z))))) in
-          ap (λ (w : World). runOf limit eop d w) (sym reached-none)
+          ap (λ (w : World). runOf limit eop d w) (sym copying-none)
           ∙ way-end limit eop d here false (to .count) way n u h (λ k l. free-after k (omega arith))
           ∙ ap (λ (x : Controller). stop (withController (here n) x) Ended) (when-hit _ _ (ended (here n .controller)) met ∙ afterTcOrEop-after n (eqb n (to .count + 1)))
 
       pub copy-halts : limit < untilEnd false (to .count) eop → runOf limit eop d (startOf c m r) ≡ stop (here limit) Limit
       copy-halts h =
-          ap (λ (w : World). runOf limit eop d w) (sym reached-none)
+          ap (λ (w : World). runOf limit eop d w) (sym copying-none)
           ∙ way-on limit eop d here false (to .count) way (untilEnd false (to .count) eop) (until false (to .count) eop) limit h (omega arith) (λ k l. free-after k l)
           ∙ run-stop eop d (here limit) (limit - limit) _ stops-after

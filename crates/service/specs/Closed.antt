@@ -5,6 +5,7 @@ use mathlib.Core.List.{List}
 use lib.Dec.{eqb, ltb}
 use lib.ListN.{getD, set}
 use Rattle.words.specs.Choice.{when}
+use Rattle.words.specs.Bits.{bit}
 use Rattle.words.specs.Steps.{steps}
 use Rattle.am9517.specs.State.{channel, withChannel, put, ended, Field, Temporary}
 use Rattle.am9517.specs.Modes.{addressHold, decrement}
@@ -70,6 +71,11 @@ unfoldable pub statesOf : Controller → ℕ → ℕ
 statesOf c n =
     n * statesWithoutS1 c + (when (needsS1 c (servingChannel c .address)) 1 0 + entered (decrement (servingChannel c .mode)) (servingChannel c .address) (n - 1))
 
+-- the same, told by the channel's record, the command and whether the first needs S1
+unfoldable pub statesBy : Channel → ℕ → Bool → ℕ → ℕ
+statesBy ch command first n =
+    n * when (eqb (bit command 3) 1) 2 3 + (when first 1 0 + entered (decrement (ch .mode)) (ch .address) (n - 1))
+
 -- the world after n transfers, at least one, of a service that is not memory-to-memory
 unfoldable pub travelled : Controller → List ℕ → List ℕ → List ℕ → ℕ → World
 travelled c m d r n =
@@ -92,9 +98,12 @@ unfoldable pub sourceAlong : Controller → ℕ → ℕ
 sourceAlong c j = when (addressHold c) (channel c 0 .address) (along (channel c 0) j)
 
 -- the route of a memory-to-memory service, and the bytes moved along it
+abbrev pub routeBy : ℕ → Channel → Channel → Route
+routeBy command source target =
+    record { hold = eqb (bit command 1) 1; from = source .address; «from_down» = decrement (source .mode); to = target .address; «to_down» = decrement (target .mode); count = target .count }
+
 abbrev pub routeOf : Controller → Route
-routeOf c =
-    record { hold = addressHold c; from = channel c 0 .address; «from_down» = decrement (channel c 0 .mode); to = channel c 1 .address; «to_down» = decrement (channel c 1 .mode); count = channel c 1 .count }
+routeOf c = routeBy (c .command) (channel c 0) (channel c 1)
 
 unfoldable pub carriedBy : Route → List ℕ → ℕ → List ℕ
 carriedBy ρ m n =
@@ -115,6 +124,10 @@ farther ρ n =
 abbrev pub copiedOn : Controller → ℕ → ℕ → Controller
 copiedOn c byte j =
     withChannel (withChannel (put c Temporary byte) 0 (withCurrent (channel c 0) (sourceAlong c j) (channel c 0 .count))) 1 (onward (channel c 1) j)
+
+-- the controller whose serving channel came to the address a, with the byte moved last
+abbrev pub withSource : Controller → ℕ → ℕ → Controller
+withSource c a byte = withChannel (put c Temporary byte) (c .serving) (withCurrent (servingChannel c) a (servingChannel c .count))
 
 -- the memory after j transfers of memory-to-memory
 abbrev pub copiedBytes : Controller → List ℕ → ℕ → List ℕ
@@ -144,6 +157,13 @@ tripWorld t m r =
 -- a trip that led to another controller
 abbrev pub withTrip : Trip → Controller → Trip
 withTrip t c = record { controller = c; transfers = t .transfers; used = t .used; written = t .written; states = t .states }
+
+-- the trip of n transfers of a channel to a controller; and of memory-to-memory
+abbrev pub tripOf : Controller → Channel → ℕ → ℕ → Trip
+tripOf c ch n states = record { controller = c; transfers = n; used = when (writes ch) n 0; written = when (reads ch) n 0; states = states }
+
+abbrev pub copyTrip : Controller → ℕ → Trip
+copyTrip c n = record { controller = c; transfers = n; used = 0; written = 0; states = n * copyCost }
 
 -- the controller c behind the transfer that ended the service of channel n
 abbrev pub closing : Controller → ℕ → Bool → Bool → Controller

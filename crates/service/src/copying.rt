@@ -3,32 +3,32 @@ use crate::Ran;
 use crate::Reason;
 use crate::Trip;
 use crate::answered;
+use crate::at_once;
+use crate::bounds::least;
 use crate::bounds::lesser;
 use crate::bounds::until_end;
-use crate::ends::finished;
 use crate::moving::place;
 use crate::moving::reach;
 use crate::stretch::along;
 use crate::stretch::onward;
+use crate::whole::Rest;
+use crate::whole::rest_of;
+use am9517::Channel;
 use am9517::Controller;
 use words::bits::with_bit;
 use words::choice::when_word;
 use words::steps::steps;
 ghost use mathlib.Core.Path.{_≡_};
-ghost use mathlib.Core.Bool.{Bool, true, false};
+ghost use mathlib.Core.Bool.{true, false};
 ghost use mathlib.Core.List.{List};
-ghost use Prim.Native.Nat.{ℕ, _+_, _≤_, _<_};
-ghost use lib.Dec.{eqb};
+ghost use Prim.Native.Nat.{ℕ, _≤_, _<_};
 ghost use lib.ListN.{length};
-ghost use Rattle.words.specs.Choice.{when};
-ghost use Rattle.words.specs.Steps.{steps};
-ghost use Rattle.am9517.specs.State.{channel, put, Request};
-ghost use Rattle.words.specs.Bits.{withBit};
-ghost use Rattle.service.specs.Ends.{finished};
+ghost use Rattle.am9517.specs.State.{withChannel};
 ghost use Rattle.service.specs.World.{memoryToMemory, startOf};
 ghost use Rattle.service.specs.Run.{runOf};
 ghost use Rattle.service.specs.Answers.{given, stopped};
-ghost use Rattle.service.specs.Closed.{withTrip, carried, placeOf, straightOf, farther, sourceAlong, copiedOn, routeOf, carriedBy, reachedCopying, tripWorld};
+ghost use Rattle.service.specs.Closed.{carried, placeOf, straightOf, farther, routeBy, carriedBy, withSource, copyTrip};
+ghost use Rattle.service.specs.Whole.{withRest};
 ghost use Rattle.service.specs.Needs.{Within, Straight};
 
 // Where the bytes of memory-to-memory come from and go to, and channel 1's count.
@@ -109,18 +109,16 @@ fn farther(route: Route, n: u64) -> Route
 }
 
 // Where the bytes come from and go to.
-fn route_of(c: Controller) -> Route
-    ensures { λ r. ⌜ r ≡ routeOf c ⌝ }
+fn route_of(command: u8, source: Channel, target: Channel) -> Route
+    ensures { λ r. ⌜ r ≡ routeBy command source target ⌝ }
 {
-    let from = c.channels[0];
-    let to = c.channels[1];
     Route {
-        hold: c.command / 2 % 2 == 1,
-        from: from.address,
-        from_down: from.mode / 32 % 2 == 1,
-        to: to.address,
-        to_down: to.mode / 32 % 2 == 1,
-        count: to.count,
+        hold: command / 2 % 2 == 1,
+        from: source.address,
+        from_down: source.mode / 32 % 2 == 1,
+        to: target.address,
+        to_down: target.mode / 32 % 2 == 1,
+        count: target.count,
     }
 }
 
@@ -139,46 +137,49 @@ fn copy_bytes(route: Route, memory: &mut [u8], n: u64)
     }
 }
 
-// Channel 0's address after n transfers.
-fn source_along(c: Controller, n: u64) -> u16
-    ensures { λ r. ⌜ r ≡ sourceAlong c n ⌝ }
+// The controller after transfers to this source address and this target, the last of this byte.
+fn copied_on(c: Controller, from: u16, to: Channel, byte: u8) -> Controller
+    requires { ⌜ c .serving < 4 ⌝ }
+    ensures { λ r. ⌜ r ≡ withChannel (withSource c from byte) 1 to ⌝ }
 {
-    let ch = c.channels[0];
-    when_word(c.command / 2 % 2 == 1, ch.address, along(ch, n))
-}
-
-// The controller after n transfers, the last of this byte.
-fn copied_on(c: Controller, byte: u8, n: u64) -> Controller
-    ensures { λ r. ⌜ r ≡ copiedOn c byte n ⌝ }
-{
-    let mut source = c.channels[0];
-    let target = c.channels[1];
-    source.address = source_along(c, n);
+    let i = c.serving as usize;
+    let mut source = c.channels[i];
+    source.address = from;
     let mut next = c;
     next.temporary = byte;
-    next.channels[0] = source;
-    next.channels[1] = onward(target, n);
+    next.channels[i] = source;
+    next.channels[1] = to;
     next
 }
 
-// n transfers.
-fn copy_trip(c: Controller, route: Route, memory: &mut [u8], n: u64) -> Trip
-    requires { ⌜ (route ≡ routeOf c) × (length (now memory) ≡ 65536) × (n ≤ 65536) ⌝ }
-    ensures { λ r. ⌜ ((room : List ℕ) → tripWorld r (now (memory .exit)) room ≡ reachedCopying c (now (memory .entry)) room n) ⌝ }
+// The same, where the service ended and left this of channel 1.
+fn copied_over(c: Controller, from: u16, rest: Rest, byte: u8) -> Controller
+    requires { ⌜ c .serving < 4 ⌝ }
+    ensures { λ r. ⌜ r ≡ withRest (withSource c from byte) 1 rest ⌝ }
 {
-    if n == 0 {
-        return Trip {
-            controller: c,
-            transfers: 0,
-            used: 0,
-            written: 0,
-            states: 0,
-        };
-    }
-    let last = along(c.channels[1], n - 1) as usize;
-    copy_bytes(route, memory, n);
-    let byte = memory[last];
-    let controller = copied_on(c, byte, n);
+    let i = c.serving as usize;
+    let mut source = c.channels[i];
+    source.address = from;
+    let target = rest.channel;
+    let mut next = c;
+    next.temporary = byte;
+    next.channels[i] = source;
+    next.channels[1] = target;
+    next.tc = rest.tc;
+    next.request = rest.request;
+    next.mask = rest.mask;
+    next.in_service = 0;
+    next.serving = 0;
+    next.latch_full = 0;
+    next.latch = 0;
+    next
+}
+
+// n transfers that led to a controller.
+fn copy_trip(controller: Controller, n: u64) -> Trip
+    requires { ⌜ n ≤ 65536 ⌝ }
+    ensures { λ r. ⌜ r ≡ copyTrip controller n ⌝ }
+{
     Trip {
         controller,
         transfers: n,
@@ -188,28 +189,32 @@ fn copy_trip(c: Controller, route: Route, memory: &mut [u8], n: u64) -> Trip
     }
 }
 
-// The trip whose last transfer met TC or EOP.
-fn copy_closed(t: Trip, tc: bool) -> Trip
-    ensures { λ r. ⌜ r ≡ withTrip t (finished (put (t .controller) Request (withBit (t .controller .request) 0 false)) 1 tc) ⌝ }
-{
-    let mut over = t.controller;
-    over.request = with_bit(over.request, 0, false);
-    let mut next = t;
-    next.controller = finished(over, 1, tc);
-    next
-}
-
 pub(crate) fn copy_service(c: Controller, memory: &mut [u8], limit: u64, eop_at: u64) -> Ran
     requires { ⌜ (memoryToMemory c ≡ true) × (length (now memory) ≡ 65536) ⌝ }
     ensures { λ r. ⌜ ((d room : List ℕ) → given r (now (memory .exit)) room ≡ stopped (runOf limit «eop_at» d (startOf c (now (memory .entry)) room))) ⌝ }
 {
-    let route = route_of(c);
+    // Channel 0, told by a variable: so c is kept whole, not field by field.
+    let i = c.serving as usize;
+    let source = c.channels[i];
+    let target = c.channels[1];
+    let route = route_of(c.command, source, target);
     let most = until_end(false, route.count, eop_at);
-    if most <= limit {
-        let t = copy_trip(c, route, memory, most);
-        let tc = most == route.count as u64 + 1;
-        return answered(copy_closed(t, tc), Reason::Ended);
+    if limit == 0 {
+        return at_once(c, Reason::Limit);
     }
-    let t = copy_trip(c, route, memory, limit);
-    answered(t, Reason::Limit)
+    let n = least(most, limit);
+    let last = along(target, n - 1) as usize;
+    copy_bytes(route, memory, n);
+    let byte = memory[last];
+    let end = farther(route, n);
+    let there = onward(target, n);
+    if most <= limit {
+        let request = with_bit(c.request, 0, false);
+        let tc = most == route.count as u64 + 1;
+        let rest = rest_of(1, there, c.tc, request, c.mask, tc, true);
+        let over = copied_over(c, end.from, rest, byte);
+        return answered(copy_trip(over, n), Reason::Ended);
+    }
+    let moved = copied_on(c, end.from, there, byte);
+    answered(copy_trip(moved, n), Reason::Limit)
 }

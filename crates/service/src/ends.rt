@@ -1,34 +1,24 @@
-// TC and external EOP.
-use am9517::Channel;
+// The end of a service.
+use crate::whole::Rest;
 use am9517::Controller;
-use words::bits::with_bit;
-use words::choice::when;
 ghost use mathlib.Core.Path.{_≡_};
 ghost use Prim.Native.Nat.{_<_};
-ghost use Rattle.service.specs.Ends.{restored, finished};
+ghost use Rattle.service.specs.Whole.{withRest};
 
-fn restored(ch: Channel) -> Channel
-    ensures { λ r. ⌜ r ≡ restored ch ⌝ }
-{
-    let mut next = ch;
-    next.address = ch.base_address;
-    next.count = ch.base_count;
-    next
-}
-
-// TC or EOP of channel n.
-pub(crate) fn finished(c: Controller, n: usize, tc: bool) -> Controller
+// The controller whose service of channel n left this.
+pub(crate) fn left(c: Controller, n: usize, rest: Rest) -> Controller
     requires { ⌜ n < 4 ⌝ }
-    ensures { λ r. ⌜ r ≡ finished c n tc ⌝ }
+    ensures { λ r. ⌜ r ≡ withRest c n rest ⌝ }
 {
-    let ch = c.channels[n];
+    let ch = rest.channel;
     let mut next = c;
-    next.tc = when(tc, with_bit(c.tc, n, true), c.tc);
-    next.request = with_bit(c.request, n, false);
-    if ch.mode / 16 % 2 == 1 {
-        next.channels[n] = restored(ch);
-        return next.ended();
-    }
-    next.mask = with_bit(c.mask, n, true);
-    next.ended()
+    next.channels[n] = ch;
+    next.tc = rest.tc;
+    next.request = rest.request;
+    next.mask = rest.mask;
+    next.in_service = 0;
+    next.serving = 0;
+    next.latch_full = 0;
+    next.latch = 0;
+    next
 }

@@ -2,12 +2,10 @@
 use am9517::Controller;
 use words::choice::when;
 ghost use mathlib.Core.Path.{_≡_};
-ghost use Prim.Native.Nat.{ℕ, _<_, _≤_};
+ghost use Prim.Native.Nat.{ℕ};
 ghost use mathlib.Core.List.{List};
-ghost use lib.ListN.{length};
 ghost use Rattle.am9517.specs.Refusals.{refusal};
-ghost use Rattle.service.specs.World.{startOf, memoryToMemory, stop};
-ghost use Rattle.service.specs.Run.{runOf};
+ghost use Rattle.service.specs.World.{startOf, stop};
 ghost use Rattle.service.specs.Answers.{given, stopped, refusedOf, runGrounds, ranOf};
 ghost use Rattle.service.specs.Closed.{tripWorld};
 
@@ -72,6 +70,20 @@ pub(crate) fn answered(t: Trip, why: Reason) -> Ran
     }
 }
 
+// A run that makes no transfer.
+pub(crate) fn at_once(c: Controller, why: Reason) -> Ran
+    ensures { λ r. ⌜ ((m room : List ℕ) → given r m room ≡ stopped (stop (startOf c m room) why)) ⌝ }
+{
+    let t = Trip {
+        controller: c,
+        transfers: 0,
+        used: 0,
+        written: 0,
+        states: 0,
+    };
+    answered(t, why)
+}
+
 fn refused(c: Controller, number: u8) -> Ran
     ensures { λ r. ⌜ r ≡ refusedOf c number ⌝ }
 {
@@ -104,6 +116,8 @@ pub fn run(
 ) -> Ran
     ensures { λ r. ⌜ given r (now (memory .exit)) (now (room .exit)) ≡ ranOf c (now (memory .entry)) (now (device .entry)) (now (room .entry)) limit «eop_at» ⌝ }
 {
+    let i = (c.serving % 4) as usize;
+    let service = c.channels[i].mode / 64;
     let no = run_refusal(c, memory);
     if no != 0 {
         return refused(c, no);
@@ -111,5 +125,14 @@ pub fn run(
     if serving::memory_to_memory(c) {
         return copying::copy_service(c, memory, limit, eop_at);
     }
-    serving::device_service(c, memory, device, room, limit, eop_at)
+    if serving::dropped(i, service, c.command, c.pins) {
+        return serving::dropped_service(c);
+    }
+    if service == 3 {
+        return at_once(c, Reason::Cascade);
+    }
+    // A block of its own: c goes on as one copy, not field by field.
+    {
+        serving::device_service(c, memory, device, room, limit, eop_at)
+    }
 }

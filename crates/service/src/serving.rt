@@ -1,26 +1,35 @@
 // The run of a service that is not memory-to-memory.
 use crate::Ran;
 use crate::Reason;
-use crate::Trip;
 use crate::answered;
+use crate::at_once;
 use crate::bounds::least;
 use crate::bounds::stock_of;
 use crate::bounds::until_end;
-use crate::ends::finished;
-use crate::stretch::travel;
+use crate::ends::left;
+use crate::stretch::move_bytes;
+use crate::stretch::moved_on;
+use crate::stretch::needs_s1;
+use crate::stretch::onward;
+use crate::stretch::states_of;
+use crate::stretch::trip;
+use crate::whole::Rest;
+use crate::whole::rest_of;
 use am9517::Controller;
 use words::bits::bit;
 ghost use mathlib.Core.Path.{_≡_};
-ghost use mathlib.Core.Bool.{false};
+ghost use mathlib.Core.Bool.{_&&_, _||_};
+ghost use mathlib.Core.List.{List};
 ghost use Prim.Native.Nat.{ℕ, _<_};
-ghost use lib.ListN.{length};
+ghost use lib.Dec.{eqb, leb};
+ghost use Rattle.words.specs.Bits.{bit};
+ghost use Rattle.words.specs.Choice.{when};
+ghost use Rattle.am9517.specs.State.{ended};
+ghost use Rattle.service.specs.declared.Reason.the-variants.{Dropped, Limit, Short};
 ghost use Rattle.service.specs.World.{memoryToMemory, startOf, stop};
-ghost use Rattle.service.specs.Stops.{dropped};
 ghost use Rattle.service.specs.Run.{runOf};
 ghost use Rattle.service.specs.Answers.{given, stopped};
-ghost use Rattle.service.specs.Closed.{withTrip, closing};
-ghost use mathlib.Core.List.{List};
-ghost use Rattle.service.specs.Needs.{Open};
+ghost use Rattle.service.specs.Needs.{Open, Transferring};
 
 // The open service is memory-to-memory.
 pub(crate) fn memory_to_memory(c: Controller) -> bool
@@ -30,41 +39,36 @@ pub(crate) fn memory_to_memory(c: Controller) -> bool
 }
 
 // A demand or cascade service whose line is inactive.
-fn dropped(c: Controller) -> bool
+pub(crate) fn dropped(n: usize, service: u8, command: u8, pins: u8) -> bool
+    ensures { λ r. ⌜ r ≡ ((eqb service 0 || eqb service 3) && eqb (bit pins n) (bit command 6)) ⌝ }
+{
+    ((service == 0) | (service == 3)) & (bit(pins, n) == command / 64 % 2)
+}
+
+// The run of a dropped service, put together as every end is.
+pub(crate) fn dropped_service(c: Controller) -> Ran
     requires { ⌜ c .serving < 4 ⌝ }
-    ensures { λ r. ⌜ r ≡ dropped c ⌝ }
+    ensures { λ r. ⌜ ((m room : List ℕ) → given r m room ≡ stopped (stop (startOf (ended c) m room) Dropped)) ⌝ }
 {
     let i = c.serving as usize;
-    let service = c.channels[i].mode / 64;
-    ((service == 0) | (service == 3)) & !c.active(i)
-}
-
-// A run that makes no transfer.
-fn at_once(c: Controller, why: Reason) -> Ran
-    ensures { λ r. ⌜ ((m room : List ℕ) → given r m room ≡ stopped (stop (startOf c m room) why)) ⌝ }
-{
-    let t = Trip {
-        controller: c,
-        transfers: 0,
-        used: 0,
-        written: 0,
-        states: 0,
+    let ch = c.channels[i];
+    let rest = Rest {
+        channel: ch,
+        tc: c.tc,
+        request: c.request,
+        mask: c.mask,
     };
-    answered(t, why)
+    at_once(left(c, i, rest), Reason::Dropped)
 }
 
-// The trip whose last transfer ended the service: by TC or EOP, or as a single one.
-fn closed(t: Trip, n: usize, tc: bool, eop: bool) -> Trip
-    requires { ⌜ n < 4 ⌝ }
-    ensures { λ r. ⌜ r ≡ withTrip t (closing (t .controller) n tc eop) ⌝ }
+// Why a service stops before its end.
+fn halt(limit: u64, stock: u64) -> Reason
+    ensures { λ r. ⌜ r ≡ when (leb limit stock) Limit Short ⌝ }
 {
-    let mut next = t;
-    if tc | eop {
-        next.controller = finished(t.controller, n, tc);
-    } else {
-        next.controller = t.controller.ended();
+    if limit <= stock {
+        return Reason::Limit;
     }
-    next
+    Reason::Short
 }
 
 pub(crate) fn device_service(
@@ -75,29 +79,28 @@ pub(crate) fn device_service(
     limit: u64,
     eop_at: u64,
 ) -> Ran
-    requires { ⌜ memoryToMemory c ≡ false ⌝ }
     requires { ⌜ Open c (now memory) ⌝ }
+    requires { ⌜ Transferring c ⌝ }
     ensures { λ r. ⌜ given r (now (memory .exit)) (now (room .exit)) ≡ stopped (runOf limit «eop_at» (now (device .entry)) (startOf c (now (memory .entry)) (now (room .entry)))) ⌝ }
 {
-    if dropped(c) {
-        return at_once(c.ended(), Reason::Dropped);
-    }
     let i = c.serving as usize;
     let ch = c.channels[i];
-    if ch.mode / 64 == 3 {
-        return at_once(c, Reason::Cascade);
-    }
     let stock = stock_of(ch, device.len() as u64, room.len() as u64);
     let most = until_end(ch.mode / 64 == 1, ch.count, eop_at);
     let far = least(limit, stock);
+    if far == 0 {
+        return at_once(c, halt(limit, stock));
+    }
+    let n = least(most, far);
+    let first = needs_s1(c.latch_full, c.latch, ch.address);
+    let states = states_of(ch, c.command, first, n);
+    move_bytes(ch, memory, device, room, n as usize);
     if most <= far {
-        let t = travel(c, memory, device, room, most);
+        let there = onward(ch, n);
         let tc = most == ch.count as u64 + 1;
-        return answered(closed(t, i, tc, most == eop_at), Reason::Ended);
+        let eop = most == eop_at;
+        let rest = rest_of(i, there, c.tc, c.request, c.mask, tc, eop);
+        return answered(trip(left(c, i, rest), ch, n, states), Reason::Ended);
     }
-    let t = travel(c, memory, device, room, far);
-    if limit <= stock {
-        return answered(t, Reason::Limit);
-    }
-    answered(t, Reason::Short)
+    answered(trip(moved_on(c, n), ch, n, states), halt(limit, stock))
 }

@@ -9,13 +9,13 @@ use words::choice::when_long;
 use words::choice::when_size;
 use words::steps::steps;
 ghost use mathlib.Core.Path.{_≡_};
-ghost use Prim.Native.Nat.{ℕ, _*_, _≤_, _<_};
-ghost use lib.ListN.{length};
+ghost use Prim.Native.Nat.{ℕ, _≤_, _<_};
+ghost use mathlib.Core.Bool.{not, _||_};
+ghost use lib.Dec.{eqb};
+ghost use Rattle.words.specs.Bytes.{highByte};
 ghost use Rattle.words.specs.Choice.{when};
-ghost use Rattle.service.specs.World.{servingChannel};
 ghost use Rattle.service.specs.Transfer.{writes, reads};
-ghost use Rattle.service.specs.States.{statesWithoutS1, needsS1};
-ghost use Rattle.service.specs.Closed.{along, onward, entered, movedOn, statesOf, spread, reached, tripWorld};
+ghost use Rattle.service.specs.Closed.{along, onward, entered, movedOn, statesBy, spread, tripOf};
 ghost use Rattle.service.specs.Needs.{Stocked};
 
 // The address after n transfers.
@@ -44,33 +44,24 @@ pub(crate) fn entered(down: bool, address: u16, n: u64) -> u64
     (when_long(down, 255 - place, place) + n) / 256
 }
 
-fn states_without_s1(c: Controller) -> u64
-    ensures { λ r. ⌜ (r ≡ statesWithoutS1 c) × (r ≤ 3) ⌝ }
-{
-    when_long(c.command / 8 % 2 == 1, 2, 3)
-}
-
 // The latch asks for state S1 at an address.
-fn needs_s1(c: Controller, address: u16) -> bool
-    ensures { λ r. ⌜ r ≡ needsS1 c address ⌝ }
+pub(crate) fn needs_s1(latch_full: u8, latch: u8, address: u16) -> bool
+    ensures { λ r. ⌜ r ≡ (not (eqb «latch_full» 1) || not (eqb latch (highByte address))) ⌝ }
 {
-    (c.latch_full != 1) | (c.latch != high_byte(address))
+    (latch_full != 1) | (latch != high_byte(address))
 }
 
-// The working states of n transfers.
-fn states_of(c: Controller, n: u64) -> u64
-    requires { ⌜ (c .serving < 4) × ((0 < n) × (n ≤ 65536)) ⌝ }
-    ensures { λ r. ⌜ r ≡ statesOf c n ⌝ }
+// The working states of n transfers, the first with S1 or without.
+pub(crate) fn states_of(ch: Channel, command: u8, first: bool, n: u64) -> u64
+    requires { ⌜ (0 < n) × (n ≤ 65536) ⌝ }
+    ensures { λ r. ⌜ r ≡ statesBy ch command first n ⌝ }
 {
-    let i = c.serving as usize;
-    let ch = c.channels[i];
-    let first = when_long(needs_s1(c, ch.address), 1, 0);
     let pages = entered(ch.mode / 32 % 2 == 1, ch.address, n - 1);
-    n * states_without_s1(c) + (first + pages)
+    n * when_long(command / 8 % 2 == 1, 2, 3) + (when_long(first, 1, 0) + pages)
 }
 
 // The controller after n transfers.
-fn moved_on(c: Controller, n: u64) -> Controller
+pub(crate) fn moved_on(c: Controller, n: u64) -> Controller
     requires { ⌜ (c .serving < 4) × (0 < n) ⌝ }
     ensures { λ r. ⌜ r ≡ movedOn c n ⌝ }
 {
@@ -107,36 +98,14 @@ pub(crate) fn move_bytes(ch: Channel, memory: &mut [u8], device: &[u8], room: &m
     }
 }
 
-// n transfers.
-pub(crate) fn travel(
-    c: Controller,
-    memory: &mut [u8],
-    device: &[u8],
-    room: &mut [u8],
-    n: u64,
-) -> Trip
-    requires { ⌜ c .serving < 4 ⌝ }
-    requires { ⌜ Stocked (servingChannel c) (now memory) (now device) (now room) n ⌝ }
-    ensures { λ r. ⌜ tripWorld r (now (memory .exit)) (now (room .exit)) ≡ reached c (now (memory .entry)) (now (device .entry)) (now (room .entry)) n ⌝ }
+// n transfers of a channel that led to a controller.
+pub(crate) fn trip(controller: Controller, ch: Channel, n: u64, states: u64) -> Trip
+    ensures { λ r. ⌜ r ≡ tripOf controller ch n states ⌝ }
 {
-    if n == 0 {
-        return Trip {
-            controller: c,
-            transfers: 0,
-            used: 0,
-            written: 0,
-            states: 0,
-        };
-    }
-    let i = c.serving as usize;
-    let ch = c.channels[i];
     let size = n as usize;
     let kind = ch.mode / 4 % 4;
     let used = when_size(kind == 1, size, 0);
     let written = when_size(kind == 2, size, 0);
-    let states = states_of(c, n);
-    let controller = moved_on(c, n);
-    move_bytes(ch, memory, device, room, size);
     Trip {
         controller,
         transfers: n,
