@@ -59,10 +59,6 @@ some-left x h = go (eqb x 0) refl
     go true e = never (sym h ∙ ap not e)
     go false e = let z = eqb-false x 0 e in omega (arith, z)
 
-pub not-left : (b : Bool) → not b ≡ false → b ≡ true
-not-left true h = refl
-not-left false h = never h
-
 -- a kind of transfer is no other one
 pub other-kind : (x a b : ℕ) → x ≡ a → eqb a b ≡ false → eqb x b ≡ true → ⊥
 other-kind x a b e f h = never (sym h ∙ ap (λ (k : ℕ). eqb k b) e ∙ f)

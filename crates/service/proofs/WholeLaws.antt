@@ -1,6 +1,6 @@
 -- A whole service on its channel's record is the run of the granted service.
 -- Assumes nothing.
-use Prim.Native.Nat.{ℕ, _+_, _-_, _*_, _≤_, _<_, _^_}
+use Prim.Native.Nat.{ℕ, _+_, _-_, _≤_, _<_}
 use mathlib.Core.Path.{_≡_, refl, sym, ap, _∙_}
 use mathlib.Core.Bool.{Bool, true, false, not, _&&_, _||_}
 use mathlib.Core.List.{List}
@@ -23,9 +23,9 @@ use Rattle.service.specs.States.{statesWithoutS1, needsS1}
 use Rattle.service.specs.Transfer.{writes, reads}
 use Rattle.service.specs.Run.{runOf}
 use Rattle.service.specs.Answers.{given, stopped}
-use Rattle.service.specs.Closed.{least, stockOf, untilEnd, along, onward, statesOf, travelled, closing}
+use Rattle.service.specs.Closed.{least, stockOf, untilEnd, along, onward, statesOf, statesBy, travelled, closing}
 use Rattle.service.specs.Needs.{Stocked}
-use Rattle.service.specs.Whole.{restOf, withRest, transfers, allOf, wholeStates, endsWhole, wholeOf, wholeMemory, wholeRoom, ranWhole}
+use Rattle.service.specs.Whole.{restOf, withRest, transfers, allOf, endsWhole, wholeOf, wholeMemory, wholeRoom, ranWhole}
 use Rattle.words.proofs.ChoiceLaws.{when-both, when-hit, when-miss, never}
 use Rattle.service.proofs.BoundLaws.{until, stocked, until-most, least-both}
 use Rattle.service.proofs.SpreadLaws.{length-spread}
@@ -41,10 +41,6 @@ left-holds false b e = e
 right-holds : (a b : Bool) → a && b ≡ true → b ≡ true
 right-holds true b e = e
 right-holds false b e = never (sym e)
-
--- what a cost in states comes to fits
-pub whole-fits : (compressed : Bool) (n p : ℕ) → n ≤ 65536 → p ≤ 257 → n * when compressed 2 3 + (1 + p) < 2 ^ 64
-whole-fits compressed n p h l = when-both (λ (x : ℕ). n * x + (1 + p) < 2 ^ 64) compressed (omega arith) (omega arith)
 
 -- A service that gets to its end.
 module _ (n : ℕ) (ch : Channel) (command pins : ℕ) (m d r : List ℕ) (is : endsWhole n ch command pins (length m) (length d) (length r) ≡ true) where
@@ -73,11 +69,11 @@ module _ (n : ℕ) (ch : Channel) (command pins : ℕ) (m d r : List ℕ) (is : 
     pub whole-stocked : (k : ℕ) → k ≡ allOf ch → Stocked ch m d r k
     whole-stocked k e = rw e (stocked ch m d r 65536 (allOf ch) size most enough)
 
--- a line that holds its service, told by two tests
-line-holds : (demand cascade inactive : Bool) → cascade ≡ false → not (demand && inactive) ≡ true → (demand || cascade) && not (not inactive) ≡ false
-line-holds true cascade true e h = never (sym h)
-line-holds true cascade false e h = refl
-line-holds false cascade inactive e h = rw e
+-- a line that is not inactive is active
+twice : (a b : Bool) → a && b ≡ false → a && not (not b) ≡ false
+twice true true h = h
+twice true false h = refl
+twice false b h = refl
 
 -- The run of the service that was just granted.
 module _ (c : Controller) (m d r : List ℕ) (latch : c .«latch_full» ≡ 0) (below : servingChannel c .address < 65536) (small : servingChannel c .count < 65536)
@@ -98,7 +94,7 @@ module _ (c : Controller) (m d r : List ℕ) (latch : c .«latch_full» ≡ 0) (
   cascade = eqb (serviceOf (ch .mode)) 3
 
   abbrev drops : Bool
-  drops = eqb (serviceOf (ch .mode)) 0 && eqb (bit (c .pins) n) (bit (c .command) 6)
+  drops = (eqb (serviceOf (ch .mode)) 0 || cascade) && eqb (bit (c .pins) n) (bit (c .command) 6)
 
   tests : not copies && (not cascade && not drops) ≡ true
   unfolding transfers
@@ -116,7 +112,7 @@ module _ (c : Controller) (m d r : List ℕ) (latch : c .«latch_full» ≡ 0) (
 
   nd : dropped c ≡ false
   unfolding dropped active
-  nd = line-holds (eqb (serviceOf (ch .mode)) 0) cascade (eqb (bit (c .pins) n) (bit (c .command) 6)) ns (right-holds (not cascade) (not drops) rest-tests)
+  nd = twice (eqb (serviceOf (ch .mode)) 0 || cascade) (eqb (bit (c .pins) n) (bit (c .command) 6)) (not-true drops (right-holds (not cascade) (not drops) rest-tests))
 
   some : 0 < all
   unfolding allOf
@@ -143,13 +139,13 @@ module _ (c : Controller) (m d r : List ℕ) (latch : c .«latch_full» ≡ 0) (
       ∙ ap (λ (x : Controller). stop (withController (travelled c m d r all) x) Ended) (closing-rest c all by-tc (eqb all 0))
       ∙ ap (λ (b : Bool). stop (withController (travelled c m d r all) (left b)) Ended) none-meets-eop
 
-  states-are : statesOf c all ≡ wholeStates ch (c .command) all
-  unfolding statesOf statesWithoutS1 needsS1 wholeStates when
+  states-are : statesOf c all ≡ statesBy ch (c .command) true all
+  unfolding statesOf statesWithoutS1 needsS1 statesBy when
   states-are = rw latch
 
   abbrev full : Whole
   full =
-      record { «is_whole» = true; rest = restOf n (onward ch all) (c .tc) (c .request) (c .mask) by-tc false; transfers = all; used = when (writes ch) all 0; written = when (reads ch) all 0; states = wholeStates ch (c .command) all }
+      record { «is_whole» = true; rest = restOf n (onward ch all) (c .tc) (c .request) (c .mask) by-tc false; transfers = all; used = when (writes ch) all 0; written = when (reads ch) all 0; states = statesBy ch (c .command) true all }
 
   whole-is : (w : Whole) → w ≡ wholeOf n ch (c .command) (c .tc) (c .request) (c .mask) (endsWhole n ch (c .command) (c .pins) (length m) (length d) (length r)) → w ≡ full
   unfolding wholeOf

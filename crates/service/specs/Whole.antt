@@ -1,12 +1,12 @@
 -- A whole service on its channel's record and a few bytes, in closed form. What a run is, Run.antt says.
-use Prim.Native.Nat.{ℕ, _+_, _-_, _*_}
+use Prim.Native.Nat.{ℕ, _+_, _-_}
 use mathlib.Core.Bool.{Bool, true, false, not, _&&_, _||_}
 use mathlib.Core.List.{List}
 use lib.Dec.{eqb, leb}
 use Rattle.words.specs.Choice.{when}
 use Rattle.words.specs.Bits.{bit, withBit}
 use Rattle.am9517.specs.State.{withChannel, put, ended, Tc, Request, Mask}
-use Rattle.am9517.specs.Modes.{autoinitialize, decrement, serviceOf}
+use Rattle.am9517.specs.Modes.{autoinitialize, serviceOf}
 use Rattle.am9517.specs.declared.Channel.{Channel}
 use Rattle.am9517.specs.declared.Controller.{Controller}
 use Rattle.service.specs.declared.Ran.{Ran}
@@ -15,7 +15,7 @@ use Rattle.service.specs.declared.RunAnswer.the-variants.{Stopped}
 use Rattle.service.specs.declared.whole.Rest.{Rest}
 use Rattle.service.specs.declared.whole.Whole.{Whole}
 use Rattle.service.specs.Transfer.{withCurrent, writes, reads}
-use Rattle.service.specs.Closed.{untilEnd, stockOf, along, onward, entered, spread}
+use Rattle.service.specs.Closed.{untilEnd, stockOf, along, onward, spread, statesBy}
 
 -- what TC, EOP or the end of a single service leaves of channel n and of its bits
 unfoldable pub restOf : ℕ → Channel → ℕ → ℕ → ℕ → Bool → Bool → Rest
@@ -37,16 +37,12 @@ withRest c n r = ended (put (put (put (withChannel c n (r .channel)) Tc (r .tc))
 -- a service of channel n that is neither memory-to-memory nor cascade, and not dropped
 unfoldable pub transfers : ℕ → Channel → ℕ → ℕ → Bool
 transfers n ch command pins =
-    not (eqb (bit command 0) 1 && eqb n 0) && (not (eqb (serviceOf (ch .mode)) 3) && not (eqb (serviceOf (ch .mode)) 0 && eqb (bit pins n) (bit command 6)))
+    let service = serviceOf (ch .mode) in
+    not (eqb (bit command 0) 1 && eqb n 0) && (not (eqb service 3) && not ((eqb service 0 || eqb service 3) && eqb (bit pins n) (bit command 6)))
 
 -- its transfers: one of a single service, else up to TC
 unfoldable pub allOf : Channel → ℕ
 allOf ch = untilEnd (eqb (serviceOf (ch .mode)) 1) (ch .count) 0
-
--- their states, where the latch is empty before them
-unfoldable pub wholeStates : Channel → ℕ → ℕ → ℕ
-wholeStates ch command n =
-    n * when (eqb (bit command 3) 1) 2 3 + (1 + entered (decrement (ch .mode)) (ch .address) (n - 1))
 
 -- it gets to its end without a stop, with memory, device bytes and room of these sizes
 unfoldable pub endsWhole : ℕ → Channel → ℕ → ℕ → ℕ → ℕ → ℕ → Bool
@@ -64,7 +60,7 @@ wholeOf n ch command tc request mask is =
       transfers = most;
       used = when (writes ch) most 0;
       written = when (reads ch) most 0;
-      states = wholeStates ch command most;
+      states = statesBy ch command true most;
     })
     (record { «is_whole» = false; rest = record { channel = ch; tc = tc; request = request; mask = mask }; transfers = 0; used = 0; written = 0; states = 0 })
 

@@ -36,7 +36,7 @@ pub(crate) fn onward(ch: Channel, n: u64) -> Channel
 }
 
 // The pages entered by n steps from an address.
-pub(crate) fn entered(down: bool, address: u16, n: u64) -> u64
+fn entered(down: bool, address: u16, n: u64) -> u64
     requires { ⌜ n ≤ 65536 ⌝ }
     ensures { λ r. ⌜ (r ≡ entered down address n) × (r ≤ 257) ⌝ }
 {

@@ -1,20 +1,20 @@
 // A whole service of a round, from its grant to its end, on its channel's record and a few bytes beside it.
 use crate::bounds::stock_of;
 use crate::bounds::until_end;
-use crate::stretch::entered;
+use crate::serving::dropped;
 use crate::stretch::move_bytes;
 use crate::stretch::onward;
+use crate::stretch::states_of;
 use am9517::Channel;
 use words::bits::bit;
 use words::bits::with_bit;
 use words::choice::when;
-use words::choice::when_long;
 use words::choice::when_size;
 use words::choice::when_word;
 ghost use mathlib.Core.Path.{_≡_};
 ghost use Prim.Native.Nat.{_≤_, _<_};
 ghost use lib.ListN.{length};
-ghost use Rattle.service.specs.Whole.{restOf, transfers, allOf, wholeStates, endsWhole, wholeOf, wholeMemory, wholeRoom};
+ghost use Rattle.service.specs.Whole.{restOf, transfers, allOf, endsWhole, wholeOf, wholeMemory, wholeRoom};
 
 // What is left of a channel and of its bits when its service has ended.
 pub struct Rest {
@@ -72,8 +72,7 @@ fn transfers(n: usize, ch: Channel, command: u8, pins: u8) -> bool
 {
     let service = ch.mode / 64;
     let copies = (bit(command, 0) == 1) & (n == 0);
-    let inactive = bit(pins, n) == command / 64 % 2;
-    !copies & (!(service == 3) & !((service == 0) & inactive))
+    !copies & (!(service == 3) & !dropped(n, service, command, pins))
 }
 
 // Its transfers: one of a single service, else up to TC.
@@ -81,15 +80,6 @@ fn all_of(ch: Channel) -> u64
     ensures { λ r. ⌜ (r ≡ allOf ch) × ((0 < r) × (r ≤ 65536)) ⌝ }
 {
     until_end(ch.mode / 64 == 1, ch.count, 0)
-}
-
-// Their working states.
-fn whole_states(ch: Channel, command: u8, n: u64) -> u64
-    requires { ⌜ (0 < n) × (n ≤ 65536) ⌝ }
-    ensures { λ r. ⌜ r ≡ wholeStates ch command n ⌝ }
-{
-    let pages = entered(ch.mode / 32 % 2 == 1, ch.address, n - 1);
-    n * when_long(command / 8 % 2 == 1, 2, 3) + (1 + pages)
 }
 
 // It gets to its end without a stop.
@@ -154,7 +144,8 @@ pub fn serve_whole(
     );
     let used = when_size(kind == 1, size, 0);
     let written = when_size(kind == 2, size, 0);
-    let states = whole_states(ch, command, most);
+    // The latch is empty after a grant.
+    let states = states_of(ch, command, true, most);
     move_bytes(ch, memory, device, room, size);
     Whole {
         is_whole: true,

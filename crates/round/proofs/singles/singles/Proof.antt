@@ -1,4 +1,5 @@
-use Rattle.round.proofs.LoneLaws.{Alone, alone-start, alone-step, lowest-below, not-left}
+use borrow.Author.Tests.{not-false}
+use Rattle.round.proofs.LoneLaws.{Alone, alone-start, alone-step, lowest-below}
 use Rattle.round.specs.Needs.{courseOf}
 use Rattle.round.specs.Round.{roundOf}
 use lib.ListN.{length, getD}
@@ -58,7 +59,7 @@ is-lone-requires : tie.Need-is-lone-requires Inv-loop μ-loop
 is-lone-requires c κs = tt
 
 move-byte-requires : tie.Need-move-byte-requires Inv-loop μ-loop
-move-byte-requires c κs = let g = c .before .before .before .before .before .before .loop .inv .rolling in let h = c .before .before .before .is-lone .ensures (not-left _ (c .before .before .if2 .left)) in (g .memory, λ w. omega (arith, h .bytes w), λ w. omega (arith, h .space w))
+move-byte-requires c κs = let g = c .before .before .before .before .before .before .loop .inv .rolling in let h = c .before .before .before .is-lone .ensures (not-false _ (c .before .before .if2 .left)) in (g .memory, λ w. omega (arith, h .bytes w), λ w. omega (arith, h .space w))
 
 stepped-requires : tie.Need-stepped-requires Inv-loop μ-loop
 stepped-requires c κs = tt
@@ -94,7 +95,7 @@ loop-less : tie.Need-loop-less Inv-loop μ-loop
 loop-less c = omega arith
 
 loop-again : tie.Need-loop-again Inv-loop μ-loop
-loop-again c = let h = c .before .before .before .before .before .before .before .before .before .before .is-lone .ensures (not-left _ (c .before .before .before .before .before .before .before .before .before .if2 .left)) in alone-step _ _ _ _ _ _ _ _ _ _ _ _ _ (c .before .before .before .before .before .before .before .before .before .before .before .before .before .loop .inv) (c .before .before .before .before .before .before .before .before .before .before .before .before .before .before .before .before .before .nexts .result) (c .before .before .before .before .before .before .before .before .before .before .before .before .before .before .before .before .before .nexts .ensures) (omega arith) _ refl h (h .below) (h .small) _ _ _ _ _ (c .before .stepped .ensures) (c .before .before .before .before .before .before .move-byte .ensures .1 .1) (c .when-size .ensures) (c .before .before .before .before .before .before .move-byte .ensures .0) (c .before .before .before .before .before .before .move-byte .ensures .1 .0)
+loop-again c = let h = c .before .before .before .before .before .before .before .before .before .before .is-lone .ensures (not-false _ (c .before .before .before .before .before .before .before .before .before .if2 .left)) in alone-step _ _ _ _ _ _ _ _ _ _ _ _ _ (c .before .before .before .before .before .before .before .before .before .before .before .before .before .loop .inv) (c .before .before .before .before .before .before .before .before .before .before .before .before .before .before .before .before .before .nexts .result) (c .before .before .before .before .before .before .before .before .before .before .before .before .before .before .before .before .before .nexts .ensures) (omega arith) _ refl h (h .below) (h .small) _ _ _ _ _ (c .before .stepped .ensures) (c .before .before .before .before .before .before .move-byte .ensures .1 .1) (c .when-size .ensures) (c .before .before .before .before .before .before .move-byte .ensures .0) (c .before .before .before .before .before .before .move-byte .ensures .1 .0)
 
 put-together-requires : tie.Need-put-together-requires Inv-loop μ-loop
 put-together-requires c κs = let g = c .before .loop .inv in (g .more, omega (arith, g .rolling .begun, g .rolling .most), lowest-below _ _ _ _ _ _ _ _ _ _ _ _ _ g, omega (arith, c .before .before .before .before .before .before .before .before .before .before .before .before .before .before .pre .transfers, c .before .before .before .before .before .before .before .before .before .before .before .before .before .before .pre .begun, c .before .before .before .before .before .before .before .before .before .before .before .before .before .before .pre .most), omega (arith, c .before .before .before .before .before .before .before .before .before .before .before .before .before .before .pre .states, c .before .before .before .before .before .before .before .before .before .before .before .before .before .before .pre .begun, c .before .before .before .before .before .before .before .before .before .before .before .before .before .before .pre .most))
