@@ -9,18 +9,6 @@ use Prim.Native.Nat.{_-_}
 use mathlib.Core.Path.{refl}
 use Rattle.round.proofs.streak.streak.Statement.{statement}
 use Rattle.round.proofs.streak.streak.Tie as tie
-use Rattle.round.proofs.streak.streak.Reads as reads
-use Rattle.round.proofs.streak.streak.Lts as lts
-use Rattle.round.proofs.singles.nexts.Reads as nexts-reads
-use Rattle.round.proofs.streak.bits_left.Reads as bits-left-reads
-use Rattle.round.proofs.streak.bits_of.Reads as bits-of-reads
-use Rattle.round.proofs.streak.bounded.Reads as bounded-reads
-use Rattle.round.proofs.streak.counted.Reads as counted-reads
-use Rattle.round.proofs.streak.counts_of.Reads as counts-of-reads
-use Rattle.round.proofs.streak.put_back.Reads as put-back-reads
-use Rattle.round.proofs.streak.put_together.Reads as put-together-reads
-use Rattle.round.proofs.streak.serve_next.Reads as serve-next-reads
-use Rattle.words.proofs.choice.when_size.Reads as when-size-reads
 
 abbrev Inv-loop : tie.InvT-loop
 Inv-loop t memory₀ device room₀ k c rotating next-of₀ channels₀ services₀ lowest₀ b₀ n₀ memory room next-of channels services lowest b n =
@@ -30,159 +18,117 @@ abbrev μ-loop : tie.MeasureT-loop
 μ-loop t memory₀ device room₀ k c rotating next-of₀ channels₀ services₀ lowest₀ b₀ n₀ memory room next-of channels services lowest b n =
     k - n .begun
 
--- src/streak.rt:166:23
 nexts-requires : tie.Need-nexts-requires Inv-loop μ-loop
 nexts-requires c κs = tt
 
--- src/streak.rt:169:22
-cast-lowest : tie.Need-cast-lowest Inv-loop μ-loop
-cast-lowest c = search needs
-
--- src/streak.rt:170:9
 bits-of-requires : tie.Need-bits-of-requires Inv-loop μ-loop
 bits-of-requires c κs = tt
 
--- src/streak.rt:171:9
 counts-of-requires : tie.Need-counts-of-requires Inv-loop μ-loop
 counts-of-requires c κs = tt
 
--- src/streak.rt:172:5
 loop-holds : tie.Need-loop-holds Inv-loop μ-loop
 loop-holds c = streak-start _ _ _ _ _ _ _ (c .before .before .before .before .before .before .before .before .before .before .before .pre) _ (c .before .before .before .before .before .nexts .ensures) _ (c .before .bits-of .ensures) _ (c .counts-of .ensures) (omega arith) (omega arith)
 
--- src/streak.rt:173:20
 array-read-next : tie.Need-array-read-next Inv-loop μ-loop
 array-read-next c = lowest-below _ _ _ _ _ _ _ _ _ _ _ _ _ (c .before .before .loop .inv)
 
--- src/streak.rt:175:13
 put-together-requires : tie.Need-put-together-requires Inv-loop μ-loop
 put-together-requires c κs = lowest-below _ _ _ _ _ _ _ _ _ _ _ _ _ (c .before .before .before .loop .inv)
 
--- src/streak.rt:175:13
 same-length : tie.Need-same-length Inv-loop μ-loop
 same-length c = omega (arith, c .before .before .before .before .loop .inv .rolling .memory, c .before .before .before .before .before .before .before .before .before .before .before .before .before .before .before .before .pre .memory)
 
--- src/streak.rt:175:13
 same-length-2 : tie.Need-same-length-2 Inv-loop μ-loop
 same-length-2 c = omega (arith, c .before .before .before .before .loop .inv .rolling .room)
 
--- src/streak.rt:175:13
 returns : tie.Need-returns Inv-loop μ-loop
 returns c = rw (c .put-together .ensures) (c .before .before .before .before .loop .inv .rolling, c .before .before .before .before .loop .inv .more)
 
--- src/streak.rt:177:17
 cast-i : tie.Need-cast-i Inv-loop μ-loop
 cast-i c = let h = who-below _ _ _ _ _ _ _ _ _ _ _ _ _ (c .before .before .before .loop .inv) (c .before .if1 .taken) _ refl (c .if2 .left) in omega (arith, h)
 
--- src/streak.rt:178:26
 mul-bounded : tie.Need-mul-bounded Inv-loop μ-loop
 mul-bounded c = let h = who-below _ _ _ _ _ _ _ _ _ _ _ _ _ (c .before .before .before .loop .inv) (c .before .if1 .taken) _ refl (c .if2 .left) in omega (arith, h)
 
--- src/streak.rt:178:26
 array-copy-out-bounded : tie.Need-array-copy-out-bounded Inv-loop μ-loop
 array-copy-out-bounded c = who-below _ _ _ _ _ _ _ _ _ _ _ _ _ (c .before .before .before .loop .inv) (c .before .if1 .taken) _ refl (c .if2 .left)
 
--- src/streak.rt:178:13
 bounded-requires : tie.Need-bounded-requires Inv-loop μ-loop
 bounded-requires c κs = tt
 
--- src/streak.rt:179:13
 serve-next-requires : tie.Need-serve-next-requires Inv-loop μ-loop
 serve-next-requires c κs = (c .before .before .before .before .before .before .before .loop .inv .rolling .used, c .before .before .before .before .before .before .before .loop .inv .rolling .written)
 
--- src/streak.rt:181:13
 put-together-requires-2 : tie.Need-put-together-requires-2 Inv-loop μ-loop
 put-together-requires-2 c κs = lowest-below _ _ _ _ _ _ _ _ _ _ _ _ _ (c .before .before .before .before .before .before .before .before .before .before .before .before .before .before .loop .inv)
 
--- src/streak.rt:181:13
 same-length-3 : tie.Need-same-length-3 Inv-loop μ-loop
 same-length-3 c = omega (arith, streak-still _ _ _ _ _ _ _ _ _ _ _ _ _ (c .before .before .before .before .before .before .before .before .before .before .before .before .before .before .before .loop .inv) (c .before .before .before .before .before .before .before .before .before .before .before .before .before .if1 .taken) _ refl (c .before .before .before .before .before .before .before .before .before .before .before .before .if2 .left) _ _ _ _ (not-true (c .before .before .before .before .before .before .before .serve-next .result .«is_whole») (c .before .if3 .taken)) (c .before .before .before .before .before .before .before .serve-next .ensures .1 .0) (c .before .before .before .before .before .before .before .serve-next .ensures .1 .1) .memory, c .before .before .before .before .before .before .before .before .before .before .before .before .before .before .before .before .before .before .before .before .before .before .before .before .before .before .before .pre .memory)
 
--- src/streak.rt:181:13
 same-length-4 : tie.Need-same-length-4 Inv-loop μ-loop
 same-length-4 c = omega (arith, streak-still _ _ _ _ _ _ _ _ _ _ _ _ _ (c .before .before .before .before .before .before .before .before .before .before .before .before .before .before .before .loop .inv) (c .before .before .before .before .before .before .before .before .before .before .before .before .before .if1 .taken) _ refl (c .before .before .before .before .before .before .before .before .before .before .before .before .if2 .left) _ _ _ _ (not-true (c .before .before .before .before .before .before .before .serve-next .result .«is_whole») (c .before .if3 .taken)) (c .before .before .before .before .before .before .before .serve-next .ensures .1 .0) (c .before .before .before .before .before .before .before .serve-next .ensures .1 .1) .room)
 
--- src/streak.rt:181:13
 returns-2 : tie.Need-returns-2 Inv-loop μ-loop
 returns-2 c = rw (c .put-together2 .ensures) (streak-still _ _ _ _ _ _ _ _ _ _ _ _ _ (c .before .before .before .before .before .before .before .before .before .before .before .before .before .before .before .loop .inv) (c .before .before .before .before .before .before .before .before .before .before .before .before .before .if1 .taken) _ refl (c .before .before .before .before .before .before .before .before .before .before .before .before .if2 .left) _ _ _ _ (not-true (c .before .before .before .before .before .before .before .serve-next .result .«is_whole») (c .before .if3 .taken)) (c .before .before .before .before .before .before .before .serve-next .ensures .1 .0) (c .before .before .before .before .before .before .before .serve-next .ensures .1 .1), c .before .before .before .before .before .before .before .before .before .before .before .before .before .before .before .loop .inv .more)
 
--- src/streak.rt:186:9
 mul-channels : tie.Need-mul-channels Inv-loop μ-loop
 mul-channels c = let h = who-below _ _ _ _ _ _ _ _ _ _ _ _ _ (c .before .before .before .before .before .before .before .before .before .before .before .before .before .before .before .before .before .before .before .before .loop .inv) (c .before .before .before .before .before .before .before .before .before .before .before .before .before .before .before .before .before .before .if1 .taken) _ refl (c .before .before .before .before .before .before .before .before .before .before .before .before .before .before .before .before .before .if2 .left) in omega (arith, h)
 
--- src/streak.rt:186:9
 array-set-from-channels : tie.Need-array-set-from-channels Inv-loop μ-loop
 array-set-from-channels c = who-below _ _ _ _ _ _ _ _ _ _ _ _ _ (c .before .before .before .before .before .before .before .before .before .before .before .before .before .before .before .before .before .before .before .before .loop .inv) (c .before .before .before .before .before .before .before .before .before .before .before .before .before .before .before .before .before .before .if1 .taken) _ refl (c .before .before .before .before .before .before .before .before .before .before .before .before .before .before .before .before .before .if2 .left)
 
--- src/streak.rt:187:23
 mul-services : tie.Need-mul-services Inv-loop μ-loop
 mul-services c = let h = who-below _ _ _ _ _ _ _ _ _ _ _ _ _ (c .before .before .before .before .before .before .before .before .before .before .before .before .before .before .before .before .before .before .before .before .loop .inv) (c .before .before .before .before .before .before .before .before .before .before .before .before .before .before .before .before .before .before .if1 .taken) _ refl (c .before .before .before .before .before .before .before .before .before .before .before .before .before .before .before .before .before .if2 .left) in omega (arith, h)
 
--- src/streak.rt:187:23
 array-read-services : tie.Need-array-read-services Inv-loop μ-loop
 array-read-services c = who-below _ _ _ _ _ _ _ _ _ _ _ _ _ (c .before .before .before .before .before .before .before .before .before .before .before .before .before .before .before .before .before .before .before .before .loop .inv) (c .before .before .before .before .before .before .before .before .before .before .before .before .before .before .before .before .before .before .if1 .taken) _ refl (c .before .before .before .before .before .before .before .before .before .before .before .before .before .before .before .before .before .if2 .left)
 
--- src/streak.rt:187:23
 add-services : tie.Need-add-services Inv-loop μ-loop
 add-services c = let g = c .before .before .before .before .before .before .before .before .before .before .before .before .before .before .before .before .before .before .before .before .loop .inv .rolling in omega (arith, g .services (getD (c .before .before .before .before .before .before .before .before .before .before .before .before .before .before .before .before .before .before .before .before .loop .next-of) (c .before .before .before .before .before .before .before .before .before .before .before .before .before .before .before .before .before .before .before .before .loop .lowest) 0), g .begun, g .most)
 
--- src/streak.rt:187:9
 mul-services-2 : tie.Need-mul-services-2 Inv-loop μ-loop
 mul-services-2 c = let h = who-below _ _ _ _ _ _ _ _ _ _ _ _ _ (c .before .before .before .before .before .before .before .before .before .before .before .before .before .before .before .before .before .before .before .before .loop .inv) (c .before .before .before .before .before .before .before .before .before .before .before .before .before .before .before .before .before .before .if1 .taken) _ refl (c .before .before .before .before .before .before .before .before .before .before .before .before .before .before .before .before .before .if2 .left) in omega (arith, h)
 
--- src/streak.rt:187:9
 array-write-services : tie.Need-array-write-services Inv-loop μ-loop
 array-write-services c = who-below _ _ _ _ _ _ _ _ _ _ _ _ _ (c .before .before .before .before .before .before .before .before .before .before .before .before .before .before .before .before .before .before .before .before .loop .inv) (c .before .before .before .before .before .before .before .before .before .before .before .before .before .before .before .before .before .before .if1 .taken) _ refl (c .before .before .before .before .before .before .before .before .before .before .before .before .before .before .before .before .before .if2 .left)
 
--- src/streak.rt:188:9
 when-size-requires : tie.Need-when-size-requires Inv-loop μ-loop
 when-size-requires c κs = tt
 
--- src/streak.rt:189:9
 bits-left-requires : tie.Need-bits-left-requires Inv-loop μ-loop
 bits-left-requires c κs = tt
 
--- src/streak.rt:190:9
 counted-requires : tie.Need-counted-requires Inv-loop μ-loop
 counted-requires c κs = let y = streak-roomy _ _ _ _ _ _ _ _ _ _ _ _ _ (c .before .before .before .before .before .before .before .before .before .before .before .before .before .before .before .before .before .before .before .before .before .before .loop .inv) (c .before .before .before .before .before .before .before .before .before .before .before .before .before .before .before .before .before .before .before .before .if1 .taken) _ refl (c .before .before .before .before .before .before .before .before .before .before .before .before .before .before .before .before .before .before .before .if2 .left) _ (c .before .before .before .before .before .before .before .before .before .before .before .before .before .before .before .before .before .bounded .ensures .0) (c .before .before .before .before .before .before .before .before .before .before .before .before .before .before .before .before .before .bounded .ensures .1) (c .before .before .before .before .before .before .before .before .before .before .before .before .before .before .before .before .before .bounded .ensures .2) _ _ _ (c .before .before .before .before .before .before .before .before .before .before .before .before .before .before .serve-next .ensures .0) (not-false (c .before .before .before .before .before .before .before .before .before .before .before .before .before .before .serve-next .result .«is_whole») (c .before .before .before .before .before .before .before .before .if3 .left)) (c .before .before .before .before .before .before .before .before .before .before .before .before .before .before .serve-next .ensures .1 .0) (c .before .before .before .before .before .before .before .before .before .before .before .before .before .before .serve-next .ensures .1 .1) in (y .begun, y .transfers, y .used, y .written, y .states)
 
--- src/streak.rt:192:29
 put-back-requires : tie.Need-put-back-requires Inv-loop μ-loop
 put-back-requires c κs = lowest-on _ _ _ _ _ _ _ _ _ _ _ _ _ (c .before .before .before .before .before .before .before .before .before .before .before .before .before .before .before .before .before .before .before .before .before .before .before .before .loop .inv) (c .before .before .before .before .before .before .before .before .before .before .before .before .before .before .before .before .before .before .before .before .before .before .if1 .taken) _ refl (c .before .before .before .before .before .before .before .before .before .before .before .before .before .before .before .before .before .before .before .before .before .if2 .left) _ (c .before .before .before .before .before .before .before .before .before .before .before .before .before .before .before .before .before .before .before .bounded .ensures .0) (c .before .before .before .before .before .before .before .before .before .before .before .before .before .before .before .before .before .before .before .bounded .ensures .1) (c .before .before .before .before .before .before .before .before .before .before .before .before .before .before .before .before .before .before .before .bounded .ensures .2) _ _ _ (c .before .before .before .before .before .before .before .before .before .before .before .before .before .before .before .before .serve-next .ensures .0) (not-false (c .before .before .before .before .before .before .before .before .before .before .before .before .before .before .before .before .serve-next .result .«is_whole») (c .before .before .before .before .before .before .before .before .before .before .if3 .left)) (c .before .before .before .before .before .before .before .before .before .before .before .before .before .before .before .before .serve-next .ensures .1 .0) (c .before .before .before .before .before .before .before .before .before .before .before .before .before .before .before .before .serve-next .ensures .1 .1) _ (c .before .before .before .when-size .ensures) _ (c .before .before .bits-left .ensures) _ (c .before .counted .ensures)
 
--- src/streak.rt:192:23
 nexts-requires-2 : tie.Need-nexts-requires-2 Inv-loop μ-loop
 nexts-requires-2 c κs = tt
 
--- src/streak.rt:172:5
 loop-less : tie.Need-loop-less Inv-loop μ-loop
 loop-less c = counted-falls _ _ _ _ _ _ _ _ _ _ _ _ _ (c .before .before .before .before .before .before .before .before .before .before .before .before .before .before .before .before .before .before .before .before .before .before .before .before .before .before .loop .inv) (c .before .before .before .before .before .before .before .before .before .before .before .before .before .before .before .before .before .before .before .before .before .before .before .before .if1 .taken) _ refl (c .before .before .before .before .before .before .before .before .before .before .before .before .before .before .before .before .before .before .before .before .before .before .before .if2 .left) _ (c .before .before .before .before .before .before .before .before .before .before .before .before .before .before .before .before .before .before .before .before .before .bounded .ensures .0) (c .before .before .before .before .before .before .before .before .before .before .before .before .before .before .before .before .before .before .before .before .before .bounded .ensures .1) (c .before .before .before .before .before .before .before .before .before .before .before .before .before .before .before .before .before .before .before .before .before .bounded .ensures .2) _ _ _ (c .before .before .before .before .before .before .before .before .before .before .before .before .before .before .before .before .before .before .serve-next .ensures .0) (not-false (c .before .before .before .before .before .before .before .before .before .before .before .before .before .before .before .before .before .before .serve-next .result .«is_whole») (c .before .before .before .before .before .before .before .before .before .before .before .before .if3 .left)) (c .before .before .before .before .before .before .before .before .before .before .before .before .before .before .before .before .before .before .serve-next .ensures .1 .0) (c .before .before .before .before .before .before .before .before .before .before .before .before .before .before .before .before .before .before .serve-next .ensures .1 .1) _ (c .before .before .before .before .before .when-size .ensures) _ (c .before .before .before .before .bits-left .ensures) _ (c .before .before .before .counted .ensures)
 
--- src/streak.rt:172:5
 loop-again : tie.Need-loop-again Inv-loop μ-loop
 loop-again c = streak-anew _ _ _ _ _ _ _ _ _ _ _ _ _ (c .before .before .before .before .before .before .before .before .before .before .before .before .before .before .before .before .before .before .before .before .before .before .before .before .before .before .loop .inv) (c .before .before .before .before .before .before .before .before .before .before .before .before .before .before .before .before .before .before .before .before .before .before .before .before .if1 .taken) _ refl (c .before .before .before .before .before .before .before .before .before .before .before .before .before .before .before .before .before .before .before .before .before .before .before .if2 .left) _ (c .before .before .before .before .before .before .before .before .before .before .before .before .before .before .before .before .before .before .before .before .before .bounded .ensures .0) (c .before .before .before .before .before .before .before .before .before .before .before .before .before .before .before .before .before .before .before .before .before .bounded .ensures .1) (c .before .before .before .before .before .before .before .before .before .before .before .before .before .before .before .before .before .before .before .before .before .bounded .ensures .2) _ _ _ (c .before .before .before .before .before .before .before .before .before .before .before .before .before .before .before .before .before .before .serve-next .ensures .0) (not-false (c .before .before .before .before .before .before .before .before .before .before .before .before .before .before .before .before .before .before .serve-next .result .«is_whole») (c .before .before .before .before .before .before .before .before .before .before .before .before .if3 .left)) (c .before .before .before .before .before .before .before .before .before .before .before .before .before .before .before .before .before .before .serve-next .ensures .1 .0) (c .before .before .before .before .before .before .before .before .before .before .before .before .before .before .before .before .before .before .serve-next .ensures .1 .1) _ (c .before .before .before .before .before .when-size .ensures) _ (c .before .before .before .before .bits-left .ensures) _ (c .before .before .before .counted .ensures) _ (c .before .put-back .ensures) _ (c .nexts2 .ensures)
 
--- src/streak.rt:172:5
 loop-less-2 : tie.Need-loop-less-2 Inv-loop μ-loop
 loop-less-2 c = counted-falls _ _ _ _ _ _ _ _ _ _ _ _ _ (c .before .before .before .before .before .before .before .before .before .before .before .before .before .before .before .before .before .before .before .before .before .before .before .before .loop .inv) (c .before .before .before .before .before .before .before .before .before .before .before .before .before .before .before .before .before .before .before .before .before .before .if1 .taken) _ refl (c .before .before .before .before .before .before .before .before .before .before .before .before .before .before .before .before .before .before .before .before .before .if2 .left) _ (c .before .before .before .before .before .before .before .before .before .before .before .before .before .before .before .before .before .before .before .bounded .ensures .0) (c .before .before .before .before .before .before .before .before .before .before .before .before .before .before .before .before .before .before .before .bounded .ensures .1) (c .before .before .before .before .before .before .before .before .before .before .before .before .before .before .before .before .before .before .before .bounded .ensures .2) _ _ _ (c .before .before .before .before .before .before .before .before .before .before .before .before .before .before .before .before .serve-next .ensures .0) (not-false (c .before .before .before .before .before .before .before .before .before .before .before .before .before .before .before .before .serve-next .result .«is_whole») (c .before .before .before .before .before .before .before .before .before .before .if3 .left)) (c .before .before .before .before .before .before .before .before .before .before .before .before .before .before .before .before .serve-next .ensures .1 .0) (c .before .before .before .before .before .before .before .before .before .before .before .before .before .before .before .before .serve-next .ensures .1 .1) _ (c .before .before .before .when-size .ensures) _ (c .before .before .bits-left .ensures) _ (c .before .counted .ensures)
 
--- src/streak.rt:172:5
 loop-again-2 : tie.Need-loop-again-2 Inv-loop μ-loop
 loop-again-2 c = streak-same _ _ _ _ _ _ _ _ _ _ _ _ _ (c .before .before .before .before .before .before .before .before .before .before .before .before .before .before .before .before .before .before .before .before .before .before .before .before .loop .inv) (c .before .before .before .before .before .before .before .before .before .before .before .before .before .before .before .before .before .before .before .before .before .before .if1 .taken) _ refl (c .before .before .before .before .before .before .before .before .before .before .before .before .before .before .before .before .before .before .before .before .before .if2 .left) _ (c .before .before .before .before .before .before .before .before .before .before .before .before .before .before .before .before .before .before .before .bounded .ensures .0) (c .before .before .before .before .before .before .before .before .before .before .before .before .before .before .before .before .before .before .before .bounded .ensures .1) (c .before .before .before .before .before .before .before .before .before .before .before .before .before .before .before .before .before .before .before .bounded .ensures .2) _ _ _ (c .before .before .before .before .before .before .before .before .before .before .before .before .before .before .before .before .serve-next .ensures .0) (not-false (c .before .before .before .before .before .before .before .before .before .before .before .before .before .before .before .before .serve-next .result .«is_whole») (c .before .before .before .before .before .before .before .before .before .before .if3 .left)) (c .before .before .before .before .before .before .before .before .before .before .before .before .before .before .before .before .serve-next .ensures .1 .0) (c .before .before .before .before .before .before .before .before .before .before .before .before .before .before .before .before .serve-next .ensures .1 .1) _ (c .before .before .before .when-size .ensures) _ (c .before .before .bits-left .ensures) _ (c .before .counted .ensures) (c .if4 .left)
 
--- src/streak.rt:195:5
 put-together-requires-3 : tie.Need-put-together-requires-3 Inv-loop μ-loop
 put-together-requires-3 c κs = lowest-below _ _ _ _ _ _ _ _ _ _ _ _ _ (c .before .before .loop .inv)
 
--- src/streak.rt:159:1
 same-length-5 : tie.Need-same-length-5 Inv-loop μ-loop
 same-length-5 c = omega (arith, c .before .before .before .loop .inv .rolling .memory, c .before .before .before .before .before .before .before .before .before .before .before .before .before .before .before .pre .memory)
 
--- src/streak.rt:159:1
 same-length-6 : tie.Need-same-length-6 Inv-loop μ-loop
 same-length-6 c = omega (arith, c .before .before .before .loop .inv .rolling .room)
 
--- src/streak.rt:159:1
 returns-3 : tie.Need-returns-3 Inv-loop μ-loop
 returns-3 c = rw (c .put-together3 .ensures) (c .before .before .before .loop .inv .rolling, c .before .before .before .loop .inv .more)
 
@@ -193,7 +139,7 @@ streak-spec =
     Inv-loop
     μ-loop
     nexts-requires
-    cast-lowest
+    (search needs)
     bits-of-requires
     counts-of-requires
     loop-holds

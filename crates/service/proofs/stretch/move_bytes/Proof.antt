@@ -6,80 +6,41 @@ use native.Mathlib.Omega.{arith}
 use borrow.Author.Needs.{needs}
 use Rattle.service.proofs.stretch.move_bytes.Statement.{statement}
 use Rattle.service.proofs.stretch.move_bytes.Tie as tie
-use Rattle.service.proofs.stretch.move_bytes.Reads as reads
-use Rattle.service.proofs.stretch.move_bytes.Lts as lts
-use Rattle.service.proofs.moving.load.Reads as load-reads
-use Rattle.service.proofs.moving.store.Reads as store-reads
 
--- src/stretch.rt:94:14
-cast-at : tie.Need-cast-at
-cast-at c = search needs
-
--- src/stretch.rt:97:26
 shared-slice-read-memory : tie.Need-shared-slice-read-memory
 shared-slice-read-memory c = let b = c .before .before .before .before .before .before .before .before .before .pre .bytes (eq-eqb _ _ (c .before .before .if1 .taken)) in omega (arith, c .before .if2 .taken)
 
--- src/stretch.rt:97:13
 slice-write-memory : tie.Need-slice-write-memory
 slice-write-memory c = omega (arith, c .before .before .before .before .before .before .before .before .before .pre .memory)
 
--- src/stretch.rt:99:13
 store-requires : tie.Need-store-requires
 store-requires c κs = let s = c .before .before .before .before .before .before .before .before .before .pre in (omega arith, s .most, s .memory, s .bytes (eq-eqb _ _ (c .before .before .if1 .taken)))
 
--- src/stretch.rt:103:23
 slice-read-room : tie.Need-slice-read-room
 slice-read-room c = omega (arith, c .before .before .before .before .before .before .before .before .before .before .pre .memory)
 
--- src/stretch.rt:103:13
 slice-write-room : tie.Need-slice-write-room
 slice-write-room c = let b = c .before .before .before .before .before .before .before .before .before .before .pre .space (eq-eqb _ _ (c .before .before .if3 .taken)) in omega (arith, c .before .if4 .taken)
 
--- src/stretch.rt:105:13
 load-requires : tie.Need-load-requires
 load-requires c κs = let s = c .before .before .before .before .before .before .before .before .before .before .before .pre in (omega arith, s .most, s .memory, s .space (eq-eqb _ _ (c .before .before .before .if3 .taken)))
 
--- src/stretch.rt:87:1
-same-length : tie.Need-same-length
-same-length c = search needs
-
--- src/stretch.rt:87:1
 returns : tie.Need-returns
 unfolding when
 returns c = (one-stored (c .before .before .before .before .before .before .before .before .before .args .ch) _ _ _ (c .before .if2 .taken) (omega arith) (eq-eqb _ _ (c .before .before .if1 .taken)), rw (c .before .before .if1 .taken))
 
--- src/stretch.rt:87:1
-same-length-2 : tie.Need-same-length-2
-same-length-2 c = search needs
-
--- src/stretch.rt:87:1
 returns-2 : tie.Need-returns-2
 unfolding when along
 returns-2 c = (simp (eq-eqb _ _ (c .before .before .before .before .before .if1 .taken)) (c .before .before .store .ensures), rw (c .before .before .before .before .before .if1 .taken))
 
--- src/stretch.rt:87:1
-same-length-3 : tie.Need-same-length-3
-same-length-3 c = search needs
-
--- src/stretch.rt:87:1
 returns-3 : tie.Need-returns-3
 unfolding when
 returns-3 c = (simp (ne-eqb _ _ (c .before .before .before .if1 .left)), one-loaded (c .before .before .before .before .before .before .before .before .before .before .args .ch) _ _ _ (c .before .if4 .taken) (omega arith) (eq-eqb _ _ (c .before .before .if3 .taken)))
 
--- src/stretch.rt:87:1
-same-length-4 : tie.Need-same-length-4
-same-length-4 c = search needs
-
--- src/stretch.rt:87:1
-same-length-5 : tie.Need-same-length-5
-same-length-5 c = search needs
-
--- src/stretch.rt:87:1
 returns-4 : tie.Need-returns-4
 unfolding when along
 returns-4 c = (simp (ne-eqb _ _ (c .before .before .before .before .before .before .before .if1 .left)), simp (eq-eqb _ _ (c .before .before .before .before .before .before .if3 .taken)) (c .before .before .load .ensures))
 
--- src/stretch.rt:87:1
 returns-5 : tie.Need-returns-5
 unfolding when
 returns-5 c = (simp (ne-eqb _ _ (c .before .if1 .left)), simp (ne-eqb _ _ (c .if3 .left)))
@@ -88,20 +49,20 @@ pub move-bytes-spec : {M : Type 1} → statement M
 move-bytes-spec =
     tie.close
     (tie.spec
-    cast-at
+    (search needs)
     shared-slice-read-memory
     slice-write-memory
     store-requires
     slice-read-room
     slice-write-room
     load-requires
-    same-length
+    (search needs)
     returns
-    same-length-2
+    (search needs)
     returns-2
-    same-length-3
+    (search needs)
     returns-3
-    same-length-4
-    same-length-5
+    (search needs)
+    (search needs)
     returns-4
     returns-5)

@@ -7,70 +7,14 @@ use native.Mathlib.Omega.{arith}
 use borrow.Author.Needs.{needs}
 use Rattle.service.proofs.whole.serve_whole.Statement.{statement}
 use Rattle.service.proofs.whole.serve_whole.Tie as tie
-use Rattle.service.proofs.whole.serve_whole.Reads as reads
-use Rattle.service.proofs.whole.serve_whole.Lts as lts
-use Rattle.service.proofs.stretch.move_bytes.Reads as move-bytes-reads
-use Rattle.service.proofs.stretch.onward.Reads as onward-reads
-use Rattle.service.proofs.stretch.states_of.Reads as states-of-reads
-use Rattle.service.proofs.whole.all_of.Reads as all-of-reads
-use Rattle.service.proofs.whole.ends_whole.Reads as ends-whole-reads
-use Rattle.service.proofs.whole.rest_of.Reads as rest-of-reads
-use Rattle.words.proofs.choice.when_size.Reads as when-size-reads
 
--- src/whole.rt:118:9
-ends-whole-requires : tie.Need-ends-whole-requires
-ends-whole-requires c κs = search needs
-
--- src/whole.rt:119:9
 returns : tie.Need-returns
 unfolding wholeOf wholeMemory wholeRoom when
 returns c = (simp (sym (c .before .ends-whole .ensures) ∙ not-true _ (c .if1 .taken)), (refl, refl))
 
--- src/whole.rt:133:9
-all-of-requires : tie.Need-all-of-requires
-all-of-requires c κs = search needs
-
--- src/whole.rt:138:9
-onward-requires : tie.Need-onward-requires
-onward-requires c κs = search needs
-
--- src/whole.rt:142:17
-cast-rest-of : tie.Need-cast-rest-of
-cast-rest-of c = search needs
-
--- src/whole.rt:142:17
-add-rest-of : tie.Need-add-rest-of
-add-rest-of c = search needs
-
--- src/whole.rt:136:9
-rest-of-requires : tie.Need-rest-of-requires
-rest-of-requires c κs = search needs
-
--- src/whole.rt:145:9
-when-size-requires : tie.Need-when-size-requires
-when-size-requires c κs = search needs
-
--- src/whole.rt:146:9
-when-size-requires-2 : tie.Need-when-size-requires-2
-when-size-requires-2 c κs = search needs
-
--- src/whole.rt:148:9
-states-of-requires : tie.Need-states-of-requires
-states-of-requires c κs = search needs
-
--- src/whole.rt:149:5
 move-bytes-requires : tie.Need-move-bytes-requires
 move-bytes-requires c κs = whole-stocked _ _ _ _ _ _ _ (sym (c .before .before .before .before .before .before .before .before .before .before .before .ends-whole .ensures) ∙ not-false _ (c .before .before .before .before .before .before .before .before .before .before .if1 .left)) (omega arith) _ (c .before .before .before .before .before .before .before .before .before .all-of .ensures .0)
 
--- src/whole.rt:102:1
-same-length : tie.Need-same-length
-same-length c = search needs
-
--- src/whole.rt:102:1
-same-length-2 : tie.Need-same-length-2
-same-length-2 c = search needs
-
--- src/whole.rt:102:1
 returns-2 : tie.Need-returns-2
 unfolding wholeOf wholeMemory wholeRoom when
 returns-2 c = (simp (sym (c .before .before .before .before .before .before .before .before .before .before .before .before .before .before .before .before .ends-whole .ensures) ∙ not-false _ (c .before .before .before .before .before .before .before .before .before .before .before .before .before .before .before .if1 .left), c .before .before .before .before .before .before .before .before .before .before .rest-of .ensures, c .before .before .before .before .before .before .before .before .before .before .before .before .onward .ensures, c .before .before .before .before .before .before .before .before .before .when-size .ensures, c .before .before .before .before .before .before .before .before .when-size2 .ensures, c .before .before .before .before .before .before .before .states-of .ensures, c .before .before .before .before .before .before .before .before .before .before .before .before .before .before .all-of .ensures .0), (rw (sym (c .before .before .before .before .before .before .before .before .before .before .before .before .before .before .all-of .ensures .0)) (c .before .before .before .before .move-bytes .ensures .0), rw (sym (c .before .before .before .before .before .before .before .before .before .before .before .before .before .before .all-of .ensures .0)) (c .before .before .before .before .move-bytes .ensures .1)))
@@ -79,17 +23,17 @@ pub serve-whole-spec : {M : Type 1} → statement M
 serve-whole-spec =
     tie.close
     (tie.spec
-    ends-whole-requires
+    (search needs)
     returns
-    all-of-requires
-    onward-requires
-    cast-rest-of
-    add-rest-of
-    rest-of-requires
-    when-size-requires
-    when-size-requires-2
-    states-of-requires
+    (search needs)
+    (search needs)
+    (search needs)
+    (search needs)
+    (search needs)
+    (search needs)
+    (search needs)
+    (search needs)
     move-bytes-requires
-    same-length
-    same-length-2
+    (search needs)
+    (search needs)
     returns-2)
