@@ -1,7 +1,6 @@
 // What an accepted register write stores, and what a read gives and leaves.
 use crate::Channel;
 use crate::Controller;
-use words::bits::bit;
 use words::bits::with_bit;
 use words::bytes::byte_of;
 use words::bytes::with_byte;

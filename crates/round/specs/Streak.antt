@@ -1,4 +1,4 @@
--- Whole services one after another, in closed form. What a round is, Round.antt says.
+-- Whole services one after another: what the loop keeps in locals, put together. What a round is, Round.antt says.
 use Prim.Native.Nat.{ℕ, _+_}
 use mathlib.Core.List.{List}
 use Rattle.am9517.specs.State.{make, but, field, Tc, Request, Mask, Lowest}

@@ -8,7 +8,7 @@ use service::run;
 use words::choice::when;
 ghost use mathlib.Core.Path.{_≡_};
 ghost use mathlib.Core.List.{List};
-ghost use Prim.Native.Nat.{ℕ, _-_, _≤_, _<_};
+ghost use Prim.Native.Nat.{ℕ, _-_, _≤_};
 ghost use lib.ListN.{length};
 ghost use mathlib.Core.Bool.{true, false};
 ghost use Rattle.am9517.specs.Ranges.{valid};
@@ -206,6 +206,9 @@ fn quick(t: Totals, memory: &mut [u8], device: &[u8], room: &mut [u8], k: u32) -
     ensures on { λ r. ⌜ t .begun ≤ r .begun ⌝ }
 {
     let u = singles::singles(t, memory, device, room, k);
+    if !streak::begins(u, k) {
+        return u;
+    }
     streak::streak(u, memory, device, room, k)
 }
 

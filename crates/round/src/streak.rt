@@ -7,6 +7,7 @@ use am9517::Controller;
 use service::Rest;
 use service::Whole;
 use service::serve_whole;
+use words::bits::bit;
 use words::choice::when_size;
 ghost use mathlib.Core.Path.{_≡_};
 ghost use Prim.Native.Nat.{_+_, _-_, _^_, _≤_, _<_};
@@ -153,6 +154,14 @@ fn serve_next(
         &device[used..],
         &mut room[written..],
     )
+}
+
+// A service comes next that may be whole. Memory-to-memory never is, and so it is spared the start of the loop.
+pub(crate) fn begins(t: Totals, k: u32) -> bool {
+    let c = t.controller;
+    let n = c.picked();
+    let copies = (bit(c.command, 0) == 1) & (n == 0);
+    (t.begun < k) & (n != 4) & !copies
 }
 
 // As many whole services as come next.

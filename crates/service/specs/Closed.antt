@@ -1,4 +1,4 @@
--- Many transfers at once, in closed form: for the private contracts of src/ and for laws. What a run is, Run.antt says.
+-- Many transfers at once, in closed form: for the contracts of src/ below `run`, and for laws. What a run is, Run.antt says.
 use Prim.Native.Nat.{ℕ, zero, suc, _+_, _-_, _*_, _/_, _%_}
 use mathlib.Core.Bool.{Bool, true, false, _||_}
 use mathlib.Core.List.{List}

@@ -7,7 +7,7 @@ pub mod Copy
 pub mod States
 pub mod Run
 pub mod Answers
--- help for laws and private contracts: no rule stands there
+-- help for laws, for private contracts and for the service that round makes whole: no rule stands there
 pub mod Closed
 pub mod Whole
 pub mod Needs

@@ -1,7 +1,6 @@
 // How many transfers may be made.
 use am9517::Channel;
 ghost use mathlib.Core.Path.{_≡_};
-ghost use lib.Dec.{eqb};
 ghost use Rattle.service.specs.Closed.{least, untilEnd, stockOf};
 
 pub(crate) fn least(a: u64, b: u64) -> u64

@@ -19,7 +19,7 @@ use words::bits::with_bit;
 use words::choice::when_word;
 use words::steps::steps;
 ghost use mathlib.Core.Path.{_≡_};
-ghost use mathlib.Core.Bool.{true, false};
+ghost use mathlib.Core.Bool.{true};
 ghost use mathlib.Core.List.{List};
 ghost use Prim.Native.Nat.{ℕ, _≤_, _<_};
 ghost use lib.ListN.{length};
@@ -211,6 +211,7 @@ pub(crate) fn copy_service(c: Controller, memory: &mut [u8], limit: u64, eop_at:
     if most <= limit {
         let request = with_bit(c.request, 0, false);
         let tc = most == route.count as u64 + 1;
+        // It ended, by TC or by EOP: what either leaves beside the TC bit is the same.
         let rest = rest_of(1, there, c.tc, request, c.mask, tc, true);
         let over = copied_over(c, end.from, rest, byte);
         return answered(copy_trip(over, n), Reason::Ended);

@@ -116,6 +116,7 @@ pub fn run(
 ) -> Ran
     ensures { λ r. ⌜ given r (now (memory .exit)) (now (room .exit)) ≡ ranOf c (now (memory .entry)) (now (device .entry)) (now (room .entry)) limit «eop_at» ⌝ }
 {
+    // Taken out before the ranges are asked: a serving channel over 3 is refused below.
     let i = (c.serving % 4) as usize;
     let service = c.channels[i].mode / 64;
     let no = run_refusal(c, memory);

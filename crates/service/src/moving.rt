@@ -2,7 +2,7 @@
 use crate::bounds::lesser;
 ghost use mathlib.Core.Path.{_≡_};
 ghost use mathlib.Core.Bool.{true, false};
-ghost use Prim.Native.Nat.{ℕ, _+_, _-_, _^_, _≤_, _<_};
+ghost use Prim.Native.Nat.{ℕ, _+_, _^_, _≤_, _<_};
 ghost use lib.ListN.{length};
 ghost use Rattle.words.specs.Steps.{steps};
 ghost use Rattle.service.specs.Closed.{spread, placeOf, reachOf, wrappedTo};

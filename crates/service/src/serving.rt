@@ -45,7 +45,7 @@ pub(crate) fn dropped(n: usize, service: u8, command: u8, pins: u8) -> bool
     ((service == 0) | (service == 3)) & (bit(pins, n) == command / 64 % 2)
 }
 
-// The run of a dropped service, put together as every end is.
+// The run of a dropped service. The channel is put back as it was: so the state is copied whole, as at every end.
 pub(crate) fn dropped_service(c: Controller) -> Ran
     requires { ⌜ c .serving < 4 ⌝ }
     ensures { λ r. ⌜ ((m room : List ℕ) → given r m room ≡ stopped (stop (startOf (ended c) m room) Dropped)) ⌝ }

@@ -12,6 +12,7 @@ use words::choice::when;
 use words::choice::when_size;
 use words::choice::when_word;
 ghost use mathlib.Core.Path.{_≡_};
+ghost use mathlib.Core.Bool.{false};
 ghost use Prim.Native.Nat.{_≤_, _<_};
 ghost use lib.ListN.{length};
 ghost use Rattle.service.specs.Whole.{restOf, transfers, allOf, endsWhole, wholeOf, wholeMemory, wholeRoom};
@@ -98,6 +99,26 @@ fn ends_whole(
     (size == 65536) & (transfers(n, ch, command, pins) & (all_of(ch) <= stock))
 }
 
+// Of a service that does not get to its end.
+fn not_whole(ch: Channel, tc: u8, request: u8, mask: u8) -> Whole
+    ensures { λ r. ⌜ r ≡ record { «is_whole» = false; rest = record { channel = ch; tc = tc; request = request; mask = mask }; transfers = 0; used = 0; written = 0; states = 0 } ⌝ }
+{
+    let rest = Rest {
+        channel: ch,
+        tc,
+        request,
+        mask,
+    };
+    Whole {
+        is_whole: false,
+        rest,
+        transfers: 0,
+        used: 0,
+        written: 0,
+        states: 0,
+    }
+}
+
 // The service of channel n that was just granted, if it gets to its end; else nothing is done.
 pub fn serve_whole(
     n: usize,
@@ -116,19 +137,7 @@ pub fn serve_whole(
     ensures room { λ r. ⌜ now (room .exit) ≡ wholeRoom ch (r .«is_whole») (now (memory .entry)) (now (room .entry)) ⌝ }
 {
     if !ends_whole(n, ch, command, pins, memory.len(), device.len(), room.len()) {
-        return Whole {
-            is_whole: false,
-            rest: Rest {
-                channel: ch,
-                tc,
-                request,
-                mask,
-            },
-            transfers: 0,
-            used: 0,
-            written: 0,
-            states: 0,
-        };
+        return not_whole(ch, tc, request, mask);
     }
     let most = all_of(ch);
     let size = most as usize;
