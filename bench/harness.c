@@ -28,7 +28,7 @@ struct work {
 static u8 memory[65537], device[LENT], room[LENT];
 static struct work works[WORKS_MAX];
 
-__attribute__((noinline)) void mark(void) { __asm__ volatile("" ::: "memory"); }
+__attribute__((noinline)) void mark(void) { __asm__ volatile(".byte 0x0f, 0x1f, 0x80, 0x4d, 0x41, 0x52, 0x4b" ::: "memory"); }
 
 /* ---- states, as sheets ---- */
 

@@ -57,22 +57,41 @@ def sides_of(work):
     return SIDES if work.both() else ("proved",)
 
 
+def counter():
+    """What counts instructions here: valgrind on x86-64, else QEMU's user emulator with the plugin counter.c; None where neither is there."""
+    if platform.machine() == "x86_64":
+        return "valgrind" if shutil.which("valgrind") else None
+    return "qemu" if shutil.which("qemu-x86_64") and os.path.exists(os.path.join(BUILT, "counter.so")) else None
+
+
 def has_counter():
-    return platform.machine() == "x86_64" and shutil.which("valgrind") is not None
+    return counter() is not None
+
+
+def counted_by_valgrind(lines, parts, folder):
+    out = os.path.join(folder, "out")
+    command = ["valgrind", "--tool=callgrind", f"--callgrind-out-file={out}", "--dump-before=mark", os.path.join(BUILT, "harness"), "count"]
+    subprocess.run(command, input=lines, text=True, check=True, capture_output=True)
+    return [int(re.search(r"^summary: (\d+)", open(f"{out}.{number + 2}").read(), re.M).group(1)) for number in range(len(parts))]
+
+
+def counted_by_qemu(lines, parts, folder):
+    out = os.path.join(folder, "out")
+    words = open(os.path.join(BUILT, "do")).read().split("exec ")[1].split()
+    loader = words[1:words.index('"$(dirname')]
+    command = ["qemu-x86_64", "-plugin", f"{os.path.join(BUILT, 'counter.so')},out={out}", *loader, os.path.join(BUILT, "harness"), "count"]
+    subprocess.run(command, input=lines, text=True, check=True, capture_output=True)
+    numbers = [int(line) for line in open(out)]
+    return numbers[1:1 + len(parts)]
 
 
 def count(works):
-    """Instructions of one turn of each work: {(index, side): number}. By callgrind, as the difference of two numbers of turns."""
+    """Instructions of one turn of each work: {(index, side): number}, as the difference of two numbers of turns."""
     parts = [(i, side, turns) for i, work in enumerate(works) for side in sides_of(work) for turns in (1, 1 + work.turns)]
     lines = "\n".join(works[i].line(side, turns) for i, side, turns in parts)
-    costs = {}
+    by = {"valgrind": counted_by_valgrind, "qemu": counted_by_qemu}[counter()]
     with tempfile.TemporaryDirectory() as folder:
-        out = os.path.join(folder, "out")
-        command = ["valgrind", "--tool=callgrind", f"--callgrind-out-file={out}", "--dump-before=mark", os.path.join(BUILT, "harness"), "count"]
-        subprocess.run(command, input=lines, text=True, check=True, capture_output=True)
-        for number, part in enumerate(parts):
-            text = open(f"{out}.{number + 2}").read()
-            costs[part] = int(re.search(r"^summary: (\d+)", text, re.M).group(1))
+        costs = dict(zip(parts, by(lines, parts, folder)))
     found = {}
     for i, work in enumerate(works):
         for side in sides_of(work):
