@@ -1,11 +1,12 @@
 -- Laws of the bits of a byte.
 -- Assumes nothing.
 use Prim.Native.Nat.{ℕ, zero, suc, _+_, _-_, _*_, _/_, _%_, _^_, _≤_, _<_}
-use mathlib.Core.Path.{_≡_, refl, ap}
+use mathlib.Core.Path.{_≡_, refl, sym, ap, ap₂, _∙_}
 use mathlib.Core.Bool.{Bool, true, false}
 use native.Mathlib.Omega.{arith}
-use native.Mathlib.Nat.{div-eq-of-lt}
-use lib.Pow.{pow-mono}
+use native.Mathlib.Nat.{div-eq-of-lt, mod-eq-of-lt, mod-lt}
+use lib.Pow.{pow-mono, pow-pos, split}
+use lib.Bits.{bitAnd, bitOr, and-block, and-mask, and-high, and-le-l, and-zero-r, or-add-and}
 use Rattle.words.specs.Choice.{when}
 use Rattle.words.specs.Bits.{bit, withBit}
 
@@ -31,14 +32,28 @@ bit-above b n hb hn =
     let z : b / 2 ^ n ≡ 0 = div-eq-of-lt (omega arith) in
     ap (λ (x : ℕ). x % 2) z
 
--- a byte with one bit changed is a byte
-pub record Room (b n : ℕ) : Type 0 where
-  pub held : b / 2 ^ n % 2 * 2 ^ n ≤ b
-  pub small : b / 2 ^ n % 2 * 2 ^ n < 256
-  pub sum : b - b / 2 ^ n % 2 * 2 ^ n + 2 ^ n < 256
+-- a byte and the weight of a bit: that bit
+one-bit : (b n : ℕ) → bitAnd b (2 ^ n) ≡ bit b n * 2 ^ n
+one-bit b n =
+    let e : 2 ^ n ≡ 1 * 2 ^ n + 0 = omega arith in
+    ap₂ bitAnd (sym (split b n)) e ∙ and-block n (b / 2 ^ n) 1 (b % 2 ^ n) 0 (mod-lt b (pow-pos n)) (pow-pos n)
+    ∙ rw (and-mask (b / 2 ^ n) 1, and-zero-r (b % 2 ^ n)) (omega arith)
 
-pub room : (b n : ℕ) → b < 256 → n < 8 → Room b n
-room b n hb = below8 (λ (k : ℕ). Room b k) (omega arith) (omega arith) (omega arith) (omega arith) (omega arith) (omega arith) (omega arith) (omega arith) n
+pub bit-set : (b n : ℕ) → bitOr b (2 ^ n) ≡ b - bit b n * 2 ^ n + 2 ^ n
+bit-set b n = omega (arith, or-add-and b (2 ^ n), and-le-l b (2 ^ n), one-bit b n)
+
+-- a byte and all weights below 2 ^ (n + 1 + j) but that of bit n
+but-bit : (j n b : ℕ) → bitAnd b ((2 ^ (j + 1) - 2 ^ 1) * 2 ^ n + (2 ^ n - 1)) ≡ b / 2 ^ n / 2 % 2 ^ j * 2 * 2 ^ n + b % 2 ^ n
+but-bit j n b =
+    let ones : ℕ = 2 ^ (j + 1) - 2 ^ 1 in
+    ap (λ (x : ℕ). bitAnd x (ones * 2 ^ n + (2 ^ n - 1))) (sym (split b n)) ∙ and-block n (b / 2 ^ n) ones (b % 2 ^ n) (2 ^ n - 1) (mod-lt b (pow-pos n)) (omega (arith, pow-pos n))
+    ∙ ap₂ (λ (x y : ℕ). x * 2 ^ n + y) (and-high (b / 2 ^ n) j 1) (and-mask (b % 2 ^ n) n ∙ mod-eq-of-lt (mod-lt b (pow-pos n)))
+
+pub bit-cleared : (b n : ℕ) → b < 256 → n < 8 → bitAnd b (255 - 2 ^ n) ≡ b - bit b n * 2 ^ n
+bit-cleared b n hb =
+    below8 (λ (k : ℕ). bitAnd b (255 - 2 ^ k) ≡ b - bit b k * 2 ^ k)
+    (but-bit 7 0 b ∙ omega arith) (but-bit 6 1 b ∙ omega arith) (but-bit 5 2 b ∙ omega arith) (but-bit 4 3 b ∙ omega arith)
+    (but-bit 3 4 b ∙ omega arith) (but-bit 2 5 b ∙ omega arith) (but-bit 1 6 b ∙ omega arith) (but-bit 0 7 b ∙ omega arith) n
 
 -- four bits with one changed are four bits
 pub four-kept : (b n : ℕ) (set : Bool) → b ≤ 15 → n < 4 → withBit b n set ≤ 15

@@ -1,5 +1,4 @@
 // The bits of a byte. A bit above bit 7 reads as 0 and can't be changed.
-use crate::choice::when;
 ghost use mathlib.Core.Path.{_≡_};
 ghost use Prim.Native.Nat.{_^_, _<_};
 ghost use Rattle.words.specs.Bits.{bit, withBit};
@@ -25,5 +24,5 @@ pub fn with_bit(b: u8, n: usize, set: bool) -> u8
         return b;
     }
     let w = weight(n);
-    b - (b >> n) % 2 * w + when(set, w, 0)
+    if set { b | w } else { b & (255 - w) }
 }
