@@ -76,7 +76,7 @@ module _ (s : Controller) (r : Ranges s) where
   granted-kept n h =
       record {
         mode = r .mode;
-        fields = record { tc = r .fields .tc; request = r .fields .request; mask = r .fields .mask; pins = r .fields .pins; flipFlop = r .fields .flipFlop; inService = omega arith; latchFull = omega arith; lowest = when-both (λ (x : ℕ). x ≤ 3) (rotating s) (omega arith) (r .fields .lowest); serving = omega arith };
+        fields = record { tc = r .fields .tc; request = r .fields .request; mask = r .fields .mask; pins = r .fields .pins; flipFlop = r .fields .flipFlop; inService = omega arith; latchFull = omega arith; lowest = when-both (λ (x : ℕ). x ≤ 3) (rotating (s .command)) (omega arith) (r .fields .lowest); serving = omega arith };
         rest = λ e. absurd (omega arith);
         latch = λ e. refl;
       }

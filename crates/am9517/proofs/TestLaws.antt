@@ -11,7 +11,7 @@ use Rattle.words.specs.Choice.{when, _and_}
 use Rattle.words.specs.Bits.{bit}
 use Rattle.words.proofs.ChoiceLaws.{when-le}
 use Rattle.am9517.specs.State.{channel}
-use Rattle.am9517.specs.Modes.{modeRefused}
+use Rattle.am9517.specs.Modes.{transferBits, serviceBits, modeRefused}
 use Rattle.am9517.specs.Ranges.{modeValid, modesValid}
 use Rattle.am9517.specs.Serving.{entitled, setOf, asked}
 use Rattle.am9517.specs.declared.Controller.{Controller}
@@ -54,8 +54,8 @@ bits-right = refl
 pub mode-bit : (m : ℕ) → m < 256 → eqb (0x888888888888 / 2 ^ (m / 4) % 2) 1 ≡ modeRefused m
 unfolding bit-right
 mode-bit m h =
-    let service : m / 4 / 16 ≡ m / 64 = omega arith in
-    same-told _ _ (every-told bit-right 64 (m / 4) bits-right (omega arith)) ∙ ap (λ (k : ℕ). eqb (m / 4 % 4) 3 && not (eqb k 3)) service
+    let service : m / 4 / 16 ≡ serviceBits m = omega arith in
+    same-told _ _ (every-told bit-right 64 (m / 4) bits-right (omega arith)) ∙ ap (λ (k : ℕ). eqb (transferBits m) 3 && not (eqb k 3)) service
 
 -- tests of which each asks a thing and forbids another: all that is asked, then all that is forbidden
 apart : (a x p y : Bool) → (a && x) && not (p || y) ≡ (a && not p) && (x && not y)

@@ -28,11 +28,11 @@ busy s = not (idle s)
 
 -- "read of 9, A, B, C, E, F"
 abbrev pub unreadable : ℕ → Bool
-unreadable r = leb 9 r && not (eqb r 13)
+unreadable r = leb 9 r && not (eqb r 0xD)
 
 abbrev pub writeGrounds : Controller → ℕ → ℕ → List (Ground ℕ)
 writeGrounds s r b =
-    1 if not (valid s) ∷ 2 if ltb 15 r ∷ 3 if busy s ∷ 4 if eqb r 14 ∷ 5 if (eqb r 11 && modeRefused b) ∷ []
+    1 if not (valid s) ∷ 2 if ltb 15 r ∷ 3 if busy s ∷ 4 if eqb r 0xE ∷ 5 if (eqb r 0xB && modeRefused b) ∷ []
 
 abbrev pub readGrounds : Controller → ℕ → List (Ground ℕ)
 readGrounds s r = 1 if not (valid s) ∷ 2 if ltb 15 r ∷ 3 if busy s ∷ 4 if unreadable r ∷ []

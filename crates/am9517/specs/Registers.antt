@@ -73,11 +73,11 @@ afterWrite s r b =
     portWritten s r b if ltb r 8
     ∷ put s Command b if eqb r 8
     ∷ put s Request (withBit (s .request) (b % 4) (eqb (bit b 2) 1)) if eqb r 9
-    ∷ put s Mask (withBit (s .mask) (b % 4) (eqb (bit b 2) 1)) if eqb r 10
-    ∷ modeWritten s b if eqb r 11
-    ∷ put s FlipFlop 0 if eqb r 12
-    ∷ cleared s if eqb r 13
-    ∷ put s Mask (b % 16) if eqb r 15
+    ∷ put s Mask (withBit (s .mask) (b % 4) (eqb (bit b 2) 1)) if eqb r 0xA
+    ∷ modeWritten s b if eqb r 0xB
+    ∷ put s FlipFlop 0 if eqb r 0xC
+    ∷ cleared s if eqb r 0xD
+    ∷ put s Mask (b % 16) if eqb r 0xF
     ∷ []) s
 
 -- what an accepted read of register r gives: 8 the status, D the temporary byte

@@ -7,7 +7,7 @@ use Rattle.words.specs.Choice.{when}
 use Rattle.words.specs.Grounds.{_if_, first}
 use Rattle.words.specs.Bits.{bit}
 use Rattle.am9517.specs.State.{channel, put, Field, Lowest, InService, Serving, LatchFull, Latch}
-use Rattle.am9517.specs.Modes.{disabled, rotating, serviceOf}
+use Rattle.am9517.specs.Modes.{disabled, rotating, isBlock}
 use Rattle.am9517.specs.declared.Controller.{Controller}
 
 -- "A line is active when its pin differs from command bit 6."
@@ -16,7 +16,7 @@ active s n = not (eqb (bit (s .pins) n) (bit (s .command) 6))
 
 -- ".. its request bit is set and its mode is block (*ruling*: elsewhere the bit is kept and not counted)."
 unfoldable pub requestCounts : Controller → ℕ → Bool
-requestCounts s n = eqb (bit (s .request) n) 1 && eqb (serviceOf (channel s n .mode)) 2
+requestCounts s n = eqb (bit (s .request) n) 1 && isBlock (channel s n .mode)
 
 -- "A channel requests when its line is active, or its request bit is set and its mode is block .."
 unfoldable pub requests : Controller → ℕ → Bool
@@ -25,7 +25,7 @@ requests s n = active s n || requestCounts s n
 -- "It is entitled when command bit 2 is 0 and either its line is active and its mask bit 0, or its request bit counts
 -- (software requests can't be masked)."
 unfoldable pub entitled : Controller → ℕ → Bool
-entitled s n = not (disabled s) && (active s n && eqb (bit (s .mask) n) 0 || requestCounts s n)
+entitled s n = not (disabled (s .command)) && (active s n && eqb (bit (s .mask) n) 0 || requestCounts s n)
 
 -- four bits that say for which channels f holds
 unfoldable pub setOf : (ℕ → Bool) → ℕ
@@ -37,7 +37,7 @@ status s = s .tc + 16 * setOf (requests s)
 
 -- "fixed order 0, 1, 2, 3, or, rotating, from the one after the lowest, going round": who is asked k-th, from 0
 abbrev pub asked : Controller → ℕ → ℕ
-asked s k = (when (rotating s) (s .lowest + 1) 0 + k) % 4
+asked s k = (when (rotating (s .command)) (s .lowest + 1) 0 + k) % 4
 
 -- "A grant takes the first entitled channel"; 4 where there is none
 unfoldable pub picked : Controller → ℕ
@@ -53,5 +53,5 @@ picked s =
 -- The latch is emptied."
 unfoldable pub granted : Controller → ℕ → Controller
 granted s n =
-    let t = put s Lowest (when (rotating s) n (s .lowest)) in
+    let t = put s Lowest (when (rotating (s .command)) n (s .lowest)) in
     put (put (put (put t InService 1) Serving n) LatchFull 0) Latch 0

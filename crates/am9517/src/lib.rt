@@ -3,6 +3,7 @@ ghost use mathlib.Core.Path.{_≡_};
 ghost use Rattle.am9517.specs.State.{fresh};
 ghost use Rattle.am9517.specs.Answers.{writeOf, readOf, pinsOf, resetOf, grantOf};
 
+pub mod modes;
 mod ranges;
 mod refusals;
 mod registers;

@@ -1,17 +1,8 @@
 // The ranges of a state.
 use crate::Controller;
+use crate::modes::mode_refused;
 ghost use mathlib.Core.Path.{_≡_};
-ghost use Rattle.am9517.specs.Modes.{modeRefused};
 ghost use Rattle.am9517.specs.Ranges.{modesValid, fieldsValid, serviceValid, valid};
-
-pub(crate) fn mode_refused(mode: u8) -> bool
-    ensures { λ r. ⌜ r ≡ modeRefused mode ⌝ }
-{
-    // Bit n is set where n * 4 is refused: one look tells it, with no branch.
-    let refused: u64 = 0x888888888888;
-    let n = (mode / 4) as usize;
-    (refused >> n) % 2 == 1
-}
 
 impl Controller {
     fn modes_valid(self) -> bool

@@ -1,6 +1,6 @@
 // The number of the first ground that holds, 0 where none does.
 use crate::Controller;
-use crate::ranges::mode_refused;
+use crate::modes::mode_refused;
 use words::choice::when;
 ghost use mathlib.Core.Path.{_≡_};
 ghost use Rattle.am9517.specs.Refusals.{refusal, writeGrounds, readGrounds, pinsGrounds, resetGrounds, grantGrounds};
@@ -10,8 +10,8 @@ impl Controller {
     pub(crate) fn write_refusal(self, reg: u32, byte: u8) -> u8
         ensures { λ r. ⌜ r ≡ refusal (writeGrounds self reg byte) ⌝ }
     {
-        let no = when((reg == 11) & mode_refused(byte), 5, 0);
-        let no = when(reg == 14, 4, no);
+        let no = when((reg == 0xB) & mode_refused(byte), 5, 0);
+        let no = when(reg == 0xE, 4, no);
         let no = when(self.in_service != 0, 3, no);
         let no = when(15 < reg, 2, no);
         when(!self.valid(), 1, no)
@@ -20,7 +20,7 @@ impl Controller {
     pub(crate) fn read_refusal(self, reg: u32) -> u8
         ensures { λ r. ⌜ r ≡ refusal (readGrounds self reg) ⌝ }
     {
-        let no = when((9 <= reg) & (reg != 13), 4, 0);
+        let no = when((9 <= reg) & (reg != 0xD), 4, 0);
         let no = when(self.in_service != 0, 3, no);
         let no = when(15 < reg, 2, no);
         when(!self.valid(), 1, no)

@@ -1,6 +1,7 @@
 // What an accepted register write stores, and what a read gives and leaves.
 use crate::Channel;
 use crate::Controller;
+use words::bits::is_set;
 use words::bits::with_bit;
 use words::bytes::byte_of;
 use words::bytes::with_byte;
@@ -100,16 +101,16 @@ impl Controller {
             return self.port_written(reg, byte);
         }
         let n = (byte % 4) as usize;
-        let set = byte / 4 % 2 == 1;
+        let set = is_set(byte, 2);
         let mut next = self;
         match reg {
             8 => next.command = byte,
             9 => next.request = with_bit(self.request, n, set),
-            10 => next.mask = with_bit(self.mask, n, set),
-            11 => next = self.mode_written(byte),
-            12 => next.flip_flop = 0,
-            13 => next = self.cleared(),
-            15 => next.mask = byte % 16,
+            0xA => next.mask = with_bit(self.mask, n, set),
+            0xB => next = self.mode_written(byte),
+            0xC => next.flip_flop = 0,
+            0xD => next = self.cleared(),
+            0xF => next.mask = byte % 16,
             _ => next = self,
         }
         next

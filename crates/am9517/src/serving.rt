@@ -1,11 +1,14 @@
 // Who may be served, and the grant.
 use crate::Controller;
+use crate::modes::disabled;
+use crate::modes::is_block;
+use crate::modes::rotating;
 use words::bits::bit;
+use words::bits::is_set;
 use words::choice::when;
 use words::choice::when_size;
 ghost use mathlib.Core.Path.{_≡_};
 ghost use Prim.Native.Nat.{_+_, _<_, _≤_};
-ghost use Rattle.am9517.specs.Modes.{rotating};
 ghost use Rattle.am9517.specs.Serving.{active, requestCounts, requests, entitled, setOf, status, asked, picked, granted};
 ghost use Rattle.words.specs.Choice.{when};
 
@@ -21,7 +24,7 @@ impl Controller {
     pub fn active(self, n: usize) -> bool
         ensures { λ r. ⌜ r ≡ active self n ⌝ }
     {
-        bit(self.pins, n) != self.command / 64 % 2
+        bit(self.pins, n) != bit(self.command, 6)
     }
 
     // The request bit of channel n counts.
@@ -30,7 +33,7 @@ impl Controller {
         ensures { λ r. ⌜ r ≡ requestCounts self n ⌝ }
     {
         let mode = self.channels[n].mode;
-        (bit(self.request, n) == 1) & (mode / 64 == 2)
+        is_set(self.request, n) & is_block(mode)
     }
 
     fn requests(self, n: usize) -> bool
@@ -45,7 +48,7 @@ impl Controller {
         ensures { λ r. ⌜ r ≡ entitled self n ⌝ }
     {
         let unmasked = bit(self.mask, n) == 0;
-        (self.command / 4 % 2 != 1) & (self.active(n) & unmasked | self.request_counts(n))
+        !disabled(self.command) & (self.active(n) & unmasked | self.request_counts(n))
     }
 
     // The entitled channels, as four bits.
@@ -74,18 +77,12 @@ impl Controller {
         self.tc + 16 * set
     }
 
-    fn rotating(self) -> bool
-        ensures { λ r. ⌜ r ≡ rotating self ⌝ }
-    {
-        self.command / 16 % 2 == 1
-    }
-
     // The channel that is asked k-th.
     fn asked(self, k: usize) -> u8
         requires { ⌜ k < 4 ⌝ }
         ensures { λ r. ⌜ r ≡ asked self k ⌝ }
     {
-        let from = when_size(self.rotating(), self.lowest as usize + 1, 0);
+        let from = when_size(rotating(self.command), self.lowest as usize + 1, 0);
         ((from + k) % 4) as u8
     }
 
@@ -109,7 +106,7 @@ impl Controller {
         ensures { λ r. ⌜ r ≡ granted self n ⌝ }
     {
         let mut next = self;
-        next.lowest = when(self.rotating(), n, self.lowest);
+        next.lowest = when(rotating(self.command), n, self.lowest);
         next.in_service = 1;
         next.serving = n;
         next.latch_full = 0;

@@ -5,7 +5,7 @@ use Rattle.am9517.proofs.Controller.active.Tie as tie
 
 returns : tie.Need-returns
 unfolding active
-returns c = simp (c .before .bit .ensures)
+returns c = simp (c .bit2 .ensures, c .before .bit .ensures)
 
 pub active-spec : {M : Type 1} → statement M
-active-spec = tie.close (tie.spec (search needs) returns)
+active-spec = tie.close (tie.spec (search needs) (search needs) returns)

@@ -16,11 +16,11 @@ returns-2 c = rw (c .match .keys1)
 
 returns-3 : tie.Need-returns-3
 unfolding afterWrite first when
-returns-3 c = rw (c .before .match .keys2) (simp (c .with-bit .ensures))
+returns-3 c = rw (c .before .match .keys2) (simp (c .with-bit .ensures, c .before .before .is-set .ensures))
 
 returns-4 : tie.Need-returns-4
 unfolding afterWrite first when
-returns-4 c = rw (c .before .match .keys3) (simp (c .with-bit2 .ensures))
+returns-4 c = rw (c .before .match .keys3) (simp (c .with-bit2 .ensures, c .before .before .is-set .ensures))
 
 returns-5 : tie.Need-returns-5
 unfolding afterWrite first when
@@ -40,7 +40,7 @@ returns-8 c = rw (c .match .keys7)
 
 returns-9 : tie.Need-returns-9
 unfolding afterWrite first when
-returns-9 c = simp (le-ltb _ _ (c .before .if1 .left), ne-eqb _ _ (c .match .rest .0 .0 .0 .0 .0 .0 .1), ne-eqb _ _ (c .match .rest .0 .0 .0 .0 .0 .1), ne-eqb _ _ (c .match .rest .0 .0 .0 .0 .1), ne-eqb _ _ (c .match .rest .0 .0 .0 .1), ne-eqb _ _ (c .match .rest .0 .0 .1), ne-eqb _ _ (c .match .rest .0 .1), ne-eqb _ _ (c .match .rest .1))
+returns-9 c = simp (le-ltb _ _ (c .before .before .if1 .left), ne-eqb _ _ (c .match .rest .0 .0 .0 .0 .0 .0 .1), ne-eqb _ _ (c .match .rest .0 .0 .0 .0 .0 .1), ne-eqb _ _ (c .match .rest .0 .0 .0 .0 .1), ne-eqb _ _ (c .match .rest .0 .0 .0 .1), ne-eqb _ _ (c .match .rest .0 .0 .1), ne-eqb _ _ (c .match .rest .0 .1), ne-eqb _ _ (c .match .rest .1))
 
 pub after-write-spec : {M : Type 1} → statement M
 after-write-spec =
@@ -48,6 +48,7 @@ after-write-spec =
     (tie.spec
     (search needs)
     returns
+    (search needs)
     (search needs)
     (search needs)
     (search needs)

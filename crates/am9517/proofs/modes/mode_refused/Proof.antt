@@ -1,8 +1,8 @@
 use native.Mathlib.Omega.{arith}
 use Rattle.am9517.proofs.TestLaws.{mode-bit}
 use borrow.Author.Needs.{needs}
-use Rattle.am9517.proofs.ranges.mode_refused.Statement.{statement}
-use Rattle.am9517.proofs.ranges.mode_refused.Tie as tie
+use Rattle.am9517.proofs.modes.mode_refused.Statement.{statement}
+use Rattle.am9517.proofs.modes.mode_refused.Tie as tie
 
 returns : tie.Need-returns
 returns c = mode-bit (c .args .mode) (omega (arith, c .good))
