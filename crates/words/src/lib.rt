@@ -1,5 +1,6 @@
-// Bits of a byte, bytes of a word, a choice that makes no branch in a proof, and the step of a 16-bit register.
+// Bits of a byte, bytes of a word, a choice that makes no branch in a proof, the step of a 16-bit register, and spans of a memory.
 pub mod bits;
 pub mod bytes;
 pub mod choice;
+pub mod spans;
 pub mod steps;
