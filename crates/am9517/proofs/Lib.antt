@@ -3,3 +3,4 @@ pub mod StateLaws
 pub mod KeepLaws
 pub mod RefusalLaws
 pub mod TestLaws
+pub mod ServingLaws

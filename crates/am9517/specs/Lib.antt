@@ -4,5 +4,6 @@ pub mod Refusals
 pub mod Modes
 pub mod Registers
 pub mod Serving
+pub mod Sets
 pub mod Ranges
 pub mod Answers

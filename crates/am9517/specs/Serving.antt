@@ -35,19 +35,30 @@ setOf f = when (f 0) 1 0 + when (f 1) 2 0 + when (f 2) 4 0 + when (f 3) 8 0
 unfoldable pub status : Controller → ℕ
 status s = s .tc + 16 * setOf (requests s)
 
--- "fixed order 0, 1, 2, 3, or, rotating, from the one after the lowest, going round": who is asked k-th, from 0
-abbrev pub asked : Controller → ℕ → ℕ
-asked s k = (when (rotating (s .command)) (s .lowest + 1) 0 + k) % 4
+-- "fixed order 0, 1, 2, 3, or, rotating, from the one after the lowest, going round": the channel that is asked last,
+abbrev pub lastAsked : Controller → ℕ
+lastAsked s = when (rotating (s .command)) (s .lowest) 3
 
--- "A grant takes the first entitled channel"; 4 where there is none
-unfoldable pub picked : Controller → ℕ
-picked s =
+-- and who is asked k-th, from 0
+abbrev pub asked : ℕ → ℕ → ℕ
+asked last k = (last + 1 + k) % 4
+
+-- the entitled channels, as four bits
+abbrev pub entitledSet : Controller → ℕ
+entitledSet s = setOf (entitled s)
+
+-- "A grant takes the first entitled channel": the first of the set, by the channel asked last; 4 where there is none
+unfoldable pub pickedFrom : ℕ → ℕ → ℕ
+pickedFrom last set =
     first (
-    asked s 0 if entitled s (asked s 0)
-    ∷ asked s 1 if entitled s (asked s 1)
-    ∷ asked s 2 if entitled s (asked s 2)
-    ∷ asked s 3 if entitled s (asked s 3)
+    asked last 0 if eqb (bit set (asked last 0)) 1
+    ∷ asked last 1 if eqb (bit set (asked last 1)) 1
+    ∷ asked last 2 if eqb (bit set (asked last 2)) 1
+    ∷ asked last 3 if eqb (bit set (asked last 3)) 1
     ∷ []) 4
+
+unfoldable pub picked : Controller → ℕ
+picked s = pickedFrom (lastAsked s) (entitledSet s)
 
 -- "Under rotation the granted channel becomes lowest at the grant; a fixed grant leaves the lowest as it is (*ruling*).
 -- The latch is emptied."

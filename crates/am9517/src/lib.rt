@@ -10,6 +10,9 @@ mod registers;
 mod serving;
 mod state;
 
+pub use serving::entitled_of;
+pub use serving::picked_from;
+
 pub struct Channel {
     pub base_address: u16,
     pub address: u16,

@@ -1,22 +1,54 @@
 // Who may be served, and the grant.
 use crate::Controller;
+use crate::modes::active_low;
 use crate::modes::disabled;
 use crate::modes::is_block;
 use crate::modes::rotating;
 use words::bits::bit;
 use words::bits::is_set;
 use words::choice::when;
-use words::choice::when_size;
 ghost use mathlib.Core.Path.{_≡_};
-ghost use Prim.Native.Nat.{_+_, _<_, _≤_};
-ghost use Rattle.am9517.specs.Serving.{active, requestCounts, requests, entitled, setOf, status, asked, picked, granted};
+ghost use Prim.Native.Nat.{_+_, _≤_};
 ghost use Rattle.words.specs.Choice.{when};
+ghost use Rattle.am9517.specs.State.{channel};
+ghost use Rattle.am9517.specs.Modes.{isBlock};
+ghost use Rattle.am9517.specs.Serving.{active, setOf, status, asked, entitledSet, pickedFrom, picked, granted};
+ghost use Rattle.am9517.specs.Sets.{linesOf, blocksOf, entitledOf};
 
 // Four bits: the weight of each that is set.
 fn four(first: bool, second: bool, third: bool, fourth: bool) -> u8
-    ensures { λ r. ⌜ (r ≡ when first 1 0 + when second 2 0 + when third 4 0 + when fourth 8 0) × (r ≤ 15) ⌝ }
+    ensures { λ r. ⌜ r ≡ when first 1 0 + when second 2 0 + when third 4 0 + when fourth 8 0 ⌝ }
 {
     when(first, 1, 0) + when(second, 2, 0) + when(third, 4, 0) + when(fourth, 8, 0)
+}
+
+// The entitled channels, of the sets that lines and blocks tell.
+pub fn entitled_of(lines: u8, blocks: u8, mask: u8, request: u8) -> u8
+    ensures { λ r. ⌜ r ≡ entitledOf lines blocks mask request ⌝ }
+{
+    lines & (255 - mask) | blocks & request
+}
+
+// The channel that is asked k-th.
+fn asked(last: u8, k: usize) -> u8
+    requires { ⌜ k ≤ 3 ⌝ }
+    ensures { λ r. ⌜ r ≡ asked last k ⌝ }
+{
+    ((last as usize + 1 + k) % 4) as u8
+}
+
+// The first channel of a set, by the one that is asked last; 4 where there is none.
+pub fn picked_from(last: u8, set: u8) -> u8
+    ensures { λ r. ⌜ r ≡ pickedFrom last set ⌝ }
+{
+    let first = asked(last, 0);
+    let second = asked(last, 1);
+    let third = asked(last, 2);
+    let fourth = asked(last, 3);
+    let n = when(is_set(set, fourth as usize), fourth, 4);
+    let n = when(is_set(set, third as usize), third, n);
+    let n = when(is_set(set, second as usize), second, n);
+    when(is_set(set, first as usize), first, n)
 }
 
 impl Controller {
@@ -27,40 +59,45 @@ impl Controller {
         bit(self.pins, n) != bit(self.command, 6)
     }
 
-    // The request bit of channel n counts.
-    fn request_counts(self, n: usize) -> bool
-        requires { ⌜ n < 4 ⌝ }
-        ensures { λ r. ⌜ r ≡ requestCounts self n ⌝ }
+    // The channels whose line is active.
+    fn active_set(self) -> u8
+        ensures { λ r. ⌜ r ≡ setOf (active self) ⌝ }
     {
-        let mode = self.channels[n].mode;
-        is_set(self.request, n) & is_block(mode)
+        let high = self.pins % 16;
+        when(active_low(self.command), 15 - high, high)
     }
 
-    fn requests(self, n: usize) -> bool
-        requires { ⌜ n < 4 ⌝ }
-        ensures { λ r. ⌜ r ≡ requests self n ⌝ }
+    // The channels whose mode is block.
+    fn block_set(self) -> u8
+        ensures { λ r. ⌜ r ≡ setOf (λ n. isBlock (channel self n .mode)) ⌝ }
     {
-        self.active(n) | self.request_counts(n)
+        four(
+            is_block(self.channels[0].mode),
+            is_block(self.channels[1].mode),
+            is_block(self.channels[2].mode),
+            is_block(self.channels[3].mode),
+        )
     }
 
-    fn entitled(self, n: usize) -> bool
-        requires { ⌜ n < 4 ⌝ }
-        ensures { λ r. ⌜ r ≡ entitled self n ⌝ }
+    // The channels that their line entitles, unless masked.
+    pub fn lines(self) -> u8
+        ensures { λ r. ⌜ r ≡ linesOf self ⌝ }
     {
-        let unmasked = bit(self.mask, n) == 0;
-        !disabled(self.command) & (self.active(n) & unmasked | self.request_counts(n))
+        when(disabled(self.command), 0, self.active_set())
+    }
+
+    // The channels that their request bit entitles, if set.
+    pub fn blocks(self) -> u8
+        ensures { λ r. ⌜ r ≡ blocksOf self ⌝ }
+    {
+        when(disabled(self.command), 0, self.block_set())
     }
 
     // The entitled channels, as four bits.
     pub fn entitled_set(self) -> u8
-        ensures { λ r. ⌜ r ≡ setOf (entitled self) ⌝ }
+        ensures { λ r. ⌜ r ≡ entitledSet self ⌝ }
     {
-        four(
-            self.entitled(0),
-            self.entitled(1),
-            self.entitled(2),
-            self.entitled(3),
-        )
+        entitled_of(self.lines(), self.blocks(), self.mask, self.request)
     }
 
     // The status byte: the TC bits, and above them the requesting channels.
@@ -68,37 +105,16 @@ impl Controller {
         requires { ⌜ self .tc ≤ 15 ⌝ }
         ensures { λ r. ⌜ r ≡ status self ⌝ }
     {
-        let set = four(
-            self.requests(0),
-            self.requests(1),
-            self.requests(2),
-            self.requests(3),
-        );
+        let set = self.active_set() | self.block_set() & self.request;
         self.tc + 16 * set
-    }
-
-    // The channel that is asked k-th.
-    fn asked(self, k: usize) -> u8
-        requires { ⌜ k < 4 ⌝ }
-        ensures { λ r. ⌜ r ≡ asked self k ⌝ }
-    {
-        let from = when_size(rotating(self.command), self.lowest as usize + 1, 0);
-        ((from + k) % 4) as u8
     }
 
     // The first entitled channel, or 4.
     pub fn picked(self) -> u8
         ensures { λ r. ⌜ r ≡ picked self ⌝ }
     {
-        let first = self.asked(0);
-        let second = self.asked(1);
-        let third = self.asked(2);
-        let fourth = self.asked(3);
-        let set = self.entitled_set();
-        let n = when(bit(set, fourth as usize) == 1, fourth, 4);
-        let n = when(bit(set, third as usize) == 1, third, n);
-        let n = when(bit(set, second as usize) == 1, second, n);
-        when(bit(set, first as usize) == 1, first, n)
+        let last = when(rotating(self.command), self.lowest, 3);
+        picked_from(last, self.entitled_set())
     }
 
     // The service of channel n begins.

@@ -1,12 +1,12 @@
 -- Laws of the bits of a byte.
 -- Assumes nothing.
-use Prim.Native.Nat.{ℕ, zero, suc, _+_, _-_, _*_, _/_, _%_, _^_, _≤_, _<_}
+use Prim.Native.Nat.{ℕ, zero, suc, _+_, _-_, _*_, _/_, _%_, _^_, _≤_, _<_, min, max}
 use mathlib.Core.Path.{_≡_, refl, sym, ap, ap₂, _∙_}
 use mathlib.Core.Bool.{Bool, true, false}
 use native.Mathlib.Omega.{arith}
 use native.Mathlib.Nat.{div-eq-of-lt, mod-eq-of-lt, mod-lt}
 use lib.Pow.{pow-mono, pow-pos, split}
-use lib.Bits.{bitAnd, bitOr, and-block, and-mask, and-high, and-le-l, and-zero-r, or-add-and}
+use lib.Bits.{bitAnd, bitOr, and-step, or-step, and-shr, or-shr, and-block, and-mask, and-high, and-le-l, and-zero-r, or-add-and}
 use Rattle.words.specs.Choice.{when}
 use Rattle.words.specs.Bits.{bit, withBit}
 
@@ -54,6 +54,13 @@ bit-cleared b n hb =
     below8 (λ (k : ℕ). bitAnd b (255 - 2 ^ k) ≡ b - bit b k * 2 ^ k)
     (but-bit 7 0 b ∙ omega arith) (but-bit 6 1 b ∙ omega arith) (but-bit 5 2 b ∙ omega arith) (but-bit 4 3 b ∙ omega arith)
     (but-bit 3 4 b ∙ omega arith) (but-bit 2 5 b ∙ omega arith) (but-bit 1 6 b ∙ omega arith) (but-bit 0 7 b ∙ omega arith) n
+
+-- a bit of two numbers' and, and of their or
+pub bit-and : (a b n : ℕ) → bit (bitAnd a b) n ≡ min (bit a n) (bit b n)
+bit-and a b n = rw (and-shr a b n) (omega (arith, and-step (a / 2 ^ n) (b / 2 ^ n)))
+
+pub bit-or : (a b n : ℕ) → bit (bitOr a b) n ≡ max (bit a n) (bit b n)
+bit-or a b n = rw (or-shr a b n) (omega (arith, or-step (a / 2 ^ n) (b / 2 ^ n)))
 
 -- four bits with one changed are four bits
 pub four-kept : (b n : ℕ) (set : Bool) → b ≤ 15 → n < 4 → withBit b n set ≤ 15

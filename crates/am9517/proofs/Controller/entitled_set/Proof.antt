@@ -1,19 +1,12 @@
+use mathlib.Core.Path.{sym}
+use native.Mathlib.Omega.{arith}
+use Rattle.am9517.proofs.ServingLaws.{entitled-set-is}
 use borrow.Author.Needs.{needs}
-use Rattle.am9517.specs.Serving.{setOf}
 use Rattle.am9517.proofs.Controller.entitled_set.Statement.{statement}
 use Rattle.am9517.proofs.Controller.entitled_set.Tie as tie
 
 returns : tie.Need-returns
-unfolding setOf
-returns c = simp (c .four .ensures .0, c .before .before .before .before .entitled .ensures, c .before .before .before .entitled2 .ensures, c .before .before .entitled3 .ensures, c .before .entitled4 .ensures)
+returns c = simp (c .entitled-of .ensures, c .before .blocks2 .ensures, c .before .before .lines .ensures) (sym (entitled-set-is (c .before .before .before .args .self) (omega (arith, c .before .before .before .good))))
 
 pub entitled-set-spec : {M : Type 1} → statement M
-entitled-set-spec =
-    tie.close
-    (tie.spec
-    (search needs)
-    (search needs)
-    (search needs)
-    (search needs)
-    (search needs)
-    returns)
+entitled-set-spec = tie.close (tie.spec (search needs) (search needs) (search needs) returns)

@@ -1,4 +1,3 @@
-use mathlib.Core.Path.{refl}
 use native.Mathlib.Omega.{arith}
 use borrow.Author.Needs.{needs}
 use Rattle.words.proofs.ChoiceLaws.{when-le}
@@ -15,7 +14,7 @@ add-result-3 : tie.Need-add-result-3
 add-result-3 c = rw (c .before .before .before .when .ensures, c .before .before .when2 .ensures, c .before .when3 .ensures, c .when4 .ensures) (omega (arith, when-le (c .before .before .before .before .args .first) 1, when-le (c .before .before .before .before .args .second) 2, when-le (c .before .before .before .before .args .third) 4, when-le (c .before .before .before .before .args .fourth) 8))
 
 returns : tie.Need-returns
-returns c = rw (c .before .before .before .when .ensures, c .before .before .when2 .ensures, c .before .when3 .ensures, c .when4 .ensures) (refl, omega (arith, when-le (c .before .before .before .before .args .first) 1, when-le (c .before .before .before .before .args .second) 2, when-le (c .before .before .before .before .args .third) 4, when-le (c .before .before .before .before .args .fourth) 8))
+returns c = rw (c .before .before .before .when .ensures, c .before .before .when2 .ensures, c .before .when3 .ensures, c .when4 .ensures)
 
 pub four-spec : {M : Type 1} → statement M
 four-spec =
