@@ -107,7 +107,7 @@ def tables(measured):
 
 def missed(measured):
     if measured.counts is None:
-        return ["Instructions were not counted: there is no valgrind for this machine."]
+        return ["Instructions were not counted: nothing on this machine counts them."]
     asked = [i for i in range(len(measured.works)) if bench.met(measured.works, measured.counts, i) is not None]
     over = [i for i in asked if not bench.met(measured.works, measured.counts, i)]
     out = [f"Of {len(asked)} targets in instructions {len(asked) - len(over)} are met."]
@@ -195,6 +195,8 @@ def write(name, words):
 
 
 def machine():
+    if platform.machine() != "x86_64":
+        return f"{platform.machine()}, {platform.system()}: the programs ran in an emulator, and their times are not those of an x86-64 processor"
     for row in open("/proc/cpuinfo", encoding="utf-8"):
         if row.startswith("model name"):
             return f"{row.split(':')[1].strip()}, {os.cpu_count()} processors, {platform.system()} {platform.machine()}"
@@ -207,7 +209,9 @@ def compiler():
 
 def counter():
     if not bench.has_counter():
-        return "none: there is no valgrind for this machine"
+        return "none: nothing on this machine counts them"
+    if bench.counter() == "qemu":
+        return "a plugin of QEMU's user emulator, bench/counter.c"
     return "callgrind of " + subprocess.run(["valgrind", "--version"], capture_output=True, text=True, check=True).stdout.strip()
 
 

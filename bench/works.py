@@ -85,18 +85,16 @@ def counted_by_qemu(lines, parts, folder):
     return numbers[1:1 + len(parts)]
 
 
-def count(works):
-    """Instructions of one turn of each work: {(index, side): number}, as the difference of two numbers of turns."""
-    parts = [(i, side, turns) for i, work in enumerate(works) for side in sides_of(work) for turns in (1, 1 + work.turns)]
+def count(works, only=None, sides=SIDES):
+    """Instructions of one turn of each work, or of those in `only`: {(index, side): number}, as the difference of two numbers of turns."""
+    chosen = range(len(works)) if only is None else only
+    pairs = [(i, side) for i in chosen for side in sides_of(works[i]) if side in sides]
+    parts = [(i, side, turns) for i, side in pairs for turns in (1, 1 + works[i].turns)]
     lines = "\n".join(works[i].line(side, turns) for i, side, turns in parts)
     by = {"valgrind": counted_by_valgrind, "qemu": counted_by_qemu}[counter()]
     with tempfile.TemporaryDirectory() as folder:
         costs = dict(zip(parts, by(lines, parts, folder)))
-    found = {}
-    for i, work in enumerate(works):
-        for side in sides_of(work):
-            found[i, side] = (costs[i, side, 1 + work.turns] - costs[i, side, 1]) / work.turns
-    return found
+    return {(i, side): (costs[i, side, 1 + works[i].turns] - costs[i, side, 1]) / works[i].turns for i, side in pairs}
 
 
 def time(works, repeats):
