@@ -1,6 +1,21 @@
 #!/bin/sh
-# Makes dist/: the C library as a host takes it. `rt staticlib host` proves the crate before it writes the archive.
-#   dist/lib/libam9517.a  dist/include/am9517.h  dist/lib/pkgconfig/am9517.pc  dist/LICENSE  dist/README
+usage() {
+    cat <<'TEXT'
+usage: ./dist.sh
+
+Proves the crate host and makes dist/, the C library as a host takes it.
+
+needs   the Rattle toolchain (its command rt)
+writes  dist/lib/libam9517.a, dist/include/am9517.h, dist/lib/pkgconfig/am9517.pc,
+        dist/LICENSE, dist/README, in place of an old dist/; and target/
+takes   minutes, for the proofs
+TEXT
+}
+
+case "${1-}" in
+    -h | --help) usage; exit 0 ;;
+esac
+[ $# -eq 0 ] || { echo "dist: $1 is unknown (./dist.sh --help tells more)" >&2; exit 2; }
 set -eu
 cd "$(dirname "$0")"
 rt staticlib host

@@ -28,7 +28,10 @@ I shows it. --batch is the number of scripts for one process (100), --timeout th
 (60), --odd sends lines the protocol leaves open too. The first N differing scripts (3) are shrunk,
 T seconds each (60); after D differing ones (100) the comparison stops. Shrunk scripts are kept in
 FOLDER if one is named. --long plays instead the two longest rounds there are, some hundred million
-transfers each.";
+transfers each. --damage looks for each deliberate fault of the model instead, in N scripts (2000).
+
+It needs nothing else and writes nothing but FOLDER. The exit status is 0 where all agree, or each
+fault was found; 1 where not; 2 where it could not begin. A thousand scripts take seconds.";
 
 const WITH_VALUE: [&str; 13] = [
     "--program",
@@ -50,6 +53,10 @@ const WITHOUT_VALUE: [&str; 3] = ["--odd", "--damage", "--long"];
 type Options = HashMap<String, String>;
 
 fn main() -> ExitCode {
+    if std::env::args().skip(1).any(|word| word == "-h" || word == "--help") {
+        println!("{USAGE}");
+        return ExitCode::SUCCESS;
+    }
     let done = read_options().and_then(|options| {
         if options.contains_key("--damage") {
             damage(&options)
