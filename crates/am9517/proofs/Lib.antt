@@ -2,5 +2,7 @@
 pub mod StateLaws
 pub mod KeepLaws
 pub mod RefusalLaws
+pub mod RegisterLaws
 pub mod TestLaws
+pub mod RangeLaws
 pub mod ServingLaws

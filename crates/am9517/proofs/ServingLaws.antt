@@ -6,7 +6,7 @@ use mathlib.Core.Bool.{Bool, true, false, not, _&&_, _||_}
 use mathlib.Core.List.{[], _∷_}
 use native.Mathlib.Omega.{arith}
 use lib.Dec.{eqb}
-use lib.Bits.{bitAnd, bitOr, and-le-l, or-lt}
+use lib.Bits.{bitAnd, bitOr, and-le-l, or-lt, and-zero-r, or-zero-r}
 use borrow.Author.Tests.{eqb-true}
 use Rattle.words.specs.Choice.{when}
 use Rattle.words.specs.Grounds.{_if_, first}
@@ -15,7 +15,7 @@ use Rattle.words.proofs.ChoiceLaws.{when-both, when-le}
 use Rattle.words.proofs.BitLaws.{bit-and, bit-or}
 use Rattle.am9517.specs.State.{channel}
 use Rattle.am9517.specs.Modes.{disabled, activeLow, isBlock}
-use Rattle.am9517.specs.Serving.{active, requestCounts, requests, entitled, setOf, status, lastAsked, asked, entitledSet, pickedFrom, picked}
+use Rattle.am9517.specs.Serving.{active, requestCounts, requests, entitled, setOf, lastAsked, asked, entitledSet, pickedFrom, picked}
 use Rattle.am9517.specs.Sets.{linesOf, blocksOf, entitledOf}
 use Rattle.am9517.specs.declared.Controller.{Controller}
 use Rattle.am9517.proofs.StateLaws.{below4}
@@ -134,6 +134,10 @@ requests-set c =
     let block : ℕ → Bool = λ n. isBlock (channel c n .mode) in
     ap (bitOr (setOf (active c))) (and-set block (c .request)) ∙ or-set (active c) _
     ∙ set-same _ _ (λ n l. ap (λ (t : Bool). active c n || t) (and-swap (block n) (eqb (bit (c .request) n) 1)))
+
+-- where no request bit is set, they are those whose line is active
+pub no-requests : (c : Controller) → c .request ≡ 0 → setOf (active c) ≡ setOf (requests c)
+no-requests c e = sym (ap (bitOr (setOf (active c))) (rw e (and-zero-r (setOf (λ n. isBlock (channel c n .mode))))) ∙ or-zero-r (setOf (active c))) ∙ requests-set c
 
 -- the channels whose pin differs from y
 pins-set : (p y : ℕ) → p ≤ 255 → y < 2 → setOf (λ n. not (eqb (bit p n) y)) ≡ when (eqb y 1) (15 - p % 16) (p % 16)

@@ -67,7 +67,7 @@ of-fields s f =
     both-hold (le-leb _ _ (f .tc)) (both-hold (le-leb _ _ (f .request)) (both-hold (le-leb _ _ (f .mask)) (both-hold (le-leb _ _ (f .pins))
     (both-hold (le-leb _ _ (f .flipFlop)) (both-hold (le-leb _ _ (f .inService)) (both-hold (le-leb _ _ (f .latchFull)) (both-hold (le-leb _ _ (f .lowest)) (le-leb _ _ (f .serving)))))))))
 
-modes-of : (s : Controller) → modesValid s ≡ true → (n : ℕ) → n < 4 → modeValid (channel s n .mode) ≡ true
+pub modes-of : (s : Controller) → modesValid s ≡ true → (n : ℕ) → n < 4 → modeValid (channel s n .mode) ≡ true
 unfolding modesValid
 modes-of s e =
     let m1 = both _ _ e in

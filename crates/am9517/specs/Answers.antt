@@ -2,7 +2,7 @@
 use Prim.Native.Nat.{ℕ}
 use lib.Dec.{eqb}
 use Rattle.words.specs.Choice.{when}
-use Rattle.am9517.specs.State.{put, cleared, Field, Pins}
+use Rattle.am9517.specs.State.{put, cleared, Pins}
 use Rattle.am9517.specs.Serving.{picked, granted}
 use Rattle.am9517.specs.Registers.{afterWrite, value, afterRead}
 use Rattle.am9517.specs.Refusals.{refusal, writeGrounds, readGrounds, pinsGrounds, resetGrounds, grantGrounds}

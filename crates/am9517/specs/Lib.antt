@@ -6,4 +6,5 @@ pub mod Registers
 pub mod Serving
 pub mod Sets
 pub mod Ranges
+pub mod Masks
 pub mod Answers

@@ -2,7 +2,7 @@
 -- Field, tag, field and make are the only lines that list every field beside the channels: a new field is one line in each.
 use Prim.Native.Nat.{ℕ}
 use mathlib.Core.List.{List, [], _∷_}
-use mathlib.Core.Bool.{Bool, cond}
+use mathlib.Core.Bool.{cond}
 use lib.ListN.{getD, set}
 use lib.Dec.{eqb}
 use Rattle.am9517.specs.declared.Channel.{Channel}

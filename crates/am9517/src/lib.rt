@@ -1,4 +1,10 @@
 // One Am9517A: its state, and the operations on it. Each takes the state by value and hands the next one back.
+use crate::state::answered;
+use words::bits::is_set;
+use words::bits::with_bit;
+use words::bytes::byte_of;
+use words::choice::when;
+use words::choice::when_word;
 ghost use mathlib.Core.Path.{_≡_};
 ghost use Rattle.am9517.specs.State.{fresh};
 ghost use Rattle.am9517.specs.Answers.{writeOf, readOf, pinsOf, resetOf, grantOf};
@@ -21,21 +27,22 @@ pub struct Channel {
     pub mode: u8,
 }
 
-// Every field is a byte, so that a state that breaks a range can be given, and is refused by 1.
+// Every field is a byte, so that a state that breaks a range can be given, and is refused by 1. The order is that of ranges.rt: eight
+// fields asked as one number (the last four are what the end of a service clears), the temporary byte, which a read takes first, three more.
 pub struct Controller {
     pub channels: [Channel; 4],
-    pub command: u8,
     pub tc: u8,
     pub request: u8,
     pub mask: u8,
-    pub temporary: u8,
-    pub flip_flop: u8,
     pub pins: u8,
-    pub lowest: u8,
     pub in_service: u8,
     pub serving: u8,
     pub latch_full: u8,
     pub latch: u8,
+    pub temporary: u8,
+    pub command: u8,
+    pub flip_flop: u8,
+    pub lowest: u8,
 }
 
 // What an operation says: done; done, with the byte read or the channel granted; or the number of its refusal.
@@ -83,14 +90,39 @@ impl Controller {
     pub fn write(self, reg: u32, byte: u8) -> Outcome
         ensures { λ r. ⌜ r ≡ writeOf self reg byte ⌝ }
     {
-        let no = self.write_refusal(reg, byte);
-        if no != 0 {
-            return self.refused(no);
+        // One copy that is changed in place, by a channel told by a variable, and one way out: so it is copied whole.
+        let mut next = self;
+        let no = next.write_refusal(reg, byte);
+        let n = (byte % 4) as usize;
+        let port = (reg / 2 % 4) as usize;
+        let answer = answered(no, Answer::Done);
+        if no == 0 {
+            match reg {
+                8 => next.command = byte,
+                9 => next.request = with_bit(next.request, n, is_set(byte, 2)),
+                0xA => next.mask = with_bit(next.mask, n, is_set(byte, 2)),
+                0xB => next.channels[n] = next.channels[n].with_mode(byte - byte % 4),
+                0xC => next.flip_flop = 0,
+                0xD => next = next.cleared(),
+                0xF => next.mask = byte % 16,
+                _ => {
+                    let high = next.flip_flop == 1;
+                    let c = next.channels[port];
+                    if reg % 2 == 0 {
+                        next.channels[port] = c.with_address_byte(high, byte);
+                    } else {
+                        next.channels[port] = c.with_count_byte(high, byte);
+                    }
+                    next.flip_flop = when(high, 0, 1);
+                }
+            }
         }
-        let next = self.after_write(reg, byte);
-        Outcome {
-            controller: next,
-            answer: Answer::Done,
+        // A block of its own: next goes out as one copy, not field by field.
+        {
+            Outcome {
+                controller: next,
+                answer,
+            }
         }
     }
 
@@ -98,15 +130,32 @@ impl Controller {
     pub fn read(self, reg: u32) -> Outcome
         ensures { λ r. ⌜ r ≡ readOf self reg ⌝ }
     {
-        let no = self.read_refusal(reg);
-        if no != 0 {
-            return self.refused(no);
+        let mut next = self;
+        let mut value = next.temporary;
+        let no = next.read_refusal(reg);
+        let port = (reg / 2 % 4) as usize;
+        if no == 0 {
+            match reg {
+                8 => {
+                    value = next.status();
+                    next.tc = 0;
+                }
+                0xD => {}
+                _ => {
+                    let high = next.flip_flop == 1;
+                    let c = next.channels[port];
+                    value = byte_of(when_word(reg % 2 == 0, c.address, c.count), high);
+                    next.flip_flop = when(high, 0, 1);
+                }
+            }
         }
-        let value = self.value(reg);
-        let next = self.after_read(reg);
-        Outcome {
-            controller: next,
-            answer: Answer::Value(value),
+        // A block of its own, as above.
+        {
+            let answer = answered(no, Answer::Value(value));
+            Outcome {
+                controller: next,
+                answer,
+            }
         }
     }
 

@@ -2,7 +2,16 @@
 use crate::Controller;
 use crate::modes::mode_refused;
 ghost use mathlib.Core.Path.{_≡_};
-ghost use Rattle.am9517.specs.Ranges.{modesValid, fieldsValid, serviceValid, valid};
+ghost use mathlib.Core.List.{[], _∷_};
+ghost use Rattle.am9517.specs.Ranges.{modesValid, valid};
+ghost use Rattle.am9517.specs.Masks.{joined, flagsOf, pairOf};
+
+// Four bytes as one number.
+fn quad(first: u8, second: u8, third: u8, fourth: u8) -> u64
+    ensures { λ r. ⌜ r ≡ joined (first ∷ second ∷ third ∷ fourth ∷ []) ⌝ }
+{
+    first as u64 + 0x100 * (second as u64) + 0x10000 * (third as u64) + 0x1000000 * (fourth as u64)
+}
 
 impl Controller {
     fn modes_valid(self) -> bool
@@ -18,26 +27,35 @@ impl Controller {
         low & !refused
     }
 
-    fn fields_valid(self) -> bool
-        ensures { λ r. ⌜ r ≡ fieldsValid self ⌝ }
+    // Eight fields as one number, a byte each: they lie side by side, so that this is one load.
+    fn flags(self) -> u64
+        ensures { λ r. ⌜ r ≡ flagsOf self ⌝ }
     {
-        let places = (self.lowest <= 3) & (self.serving <= 3);
-        let flags = (self.flip_flop <= 1)
-            & ((self.in_service <= 1) & ((self.latch_full <= 1) & places));
-        (self.tc <= 15) & ((self.request <= 15) & ((self.mask <= 15) & ((self.pins <= 15) & flags)))
+        let low = quad(self.tc, self.request, self.mask, self.pins);
+        let high = quad(self.in_service, self.serving, self.latch_full, self.latch);
+        low + 0x100000000 * high
     }
 
-    fn service_valid(self) -> bool
-        ensures { λ r. ⌜ r ≡ serviceValid self ⌝ }
+    // Two more, the same way.
+    fn pair(self) -> u16
+        ensures { λ r. ⌜ r ≡ pairOf self ⌝ }
     {
-        let at_rest = (self.serving == 0) & (self.latch_full == 0) & (self.latch == 0);
-        ((self.in_service != 0) | at_rest) & ((self.latch_full != 0) | (self.latch == 0))
+        self.flip_flop as u16 + 0x100 * (self.lowest as u16)
     }
 
-    // No range is broken.
+    // No range is broken. A mask has the bits that must be zero: idle, then in service.
     pub fn valid(self) -> bool
         ensures { λ r. ⌜ r ≡ valid self ⌝ }
     {
-        self.modes_valid() & (self.fields_valid() & self.service_valid())
+        if !self.modes_valid() {
+            return false;
+        }
+        let flags = self.flags();
+        let pair = self.pair() & 0xfcfe == 0;
+        if (flags & 0xffff_ffff_f0f0_f0f0 == 0) & pair {
+            return true;
+        }
+        let fields = (flags & 0x00fe_fcfe_f0f0_f0f0 == 0) & pair;
+        fields & (self.in_service == 1) & ((self.latch_full == 1) | (self.latch == 0))
     }
 }

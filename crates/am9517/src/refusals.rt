@@ -12,18 +12,37 @@ impl Controller {
     {
         let no = when((reg == 0xB) & mode_refused(byte), 5, 0);
         let no = when(reg == 0xE, 4, no);
-        let no = when(self.in_service != 0, 3, no);
-        let no = when(15 < reg, 2, no);
-        when(!self.valid(), 1, no)
+        if !self.valid() {
+            return 1;
+        }
+        if 15 < reg {
+            return 2;
+        }
+        if self.in_service != 0 {
+            return 3;
+        }
+        no
     }
 
     pub(crate) fn read_refusal(self, reg: u32) -> u8
         ensures { λ r. ⌜ r ≡ refusal (readGrounds self reg) ⌝ }
     {
-        let no = when((9 <= reg) & (reg != 0xD), 4, 0);
-        let no = when(self.in_service != 0, 3, no);
-        let no = when(15 < reg, 2, no);
-        when(!self.valid(), 1, no)
+        if !self.valid() {
+            return 1;
+        }
+        if 15 < reg {
+            return 2;
+        }
+        if self.in_service != 0 {
+            return 3;
+        }
+        if reg <= 8 {
+            return 0;
+        }
+        if reg != 0xD {
+            return 4;
+        }
+        0
     }
 
     pub(crate) fn pins_refusal(self, levels: u32) -> u8

@@ -105,8 +105,11 @@ impl Controller {
         requires { ⌜ self .tc ≤ 15 ⌝ }
         ensures { λ r. ⌜ r ≡ status self ⌝ }
     {
-        let set = self.active_set() | self.block_set() & self.request;
-        self.tc + 16 * set
+        let active = self.active_set();
+        if self.request == 0 {
+            return self.tc + 16 * active;
+        }
+        self.tc + 16 * (active | self.block_set() & self.request)
     }
 
     // The first entitled channel, or 4.

@@ -3,8 +3,17 @@ use crate::Answer;
 use crate::Controller;
 use crate::Outcome;
 ghost use mathlib.Core.Path.{_≡_};
+ghost use lib.Dec.{eqb};
+ghost use Rattle.words.specs.Choice.{when};
 ghost use Rattle.am9517.specs.State.{ended, cleared};
 ghost use Rattle.am9517.specs.declared.Answer.the-variants.{Refused};
+
+// What is told where the refusal's number is 0, else that number.
+pub(crate) fn answered(no: u8, told: Answer) -> Answer
+    ensures { λ r. ⌜ r ≡ when (eqb no 0) told (Refused no) ⌝ }
+{
+    if no == 0 { told } else { Answer::Refused(no) }
+}
 
 impl Controller {
     // The service ends, however it ends.

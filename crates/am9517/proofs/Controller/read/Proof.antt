@@ -1,23 +1,61 @@
-use mathlib.Core.Path.{_∙_, sym}
+use Prim.Native.Nat.{ℕ, _/_, _%_, _≤_}
+use mathlib.Core.Path.{_≡_, refl, sym, ap, _∙_}
+use mathlib.Core.Logic.{⊎-elim}
+use native.Mathlib.Nat.{mod-eq-of-lt}
+use native.Mathlib.Omega.{arith}
 use borrow.Author.Tests.{eq-eqb, ne-eqb}
 use borrow.Author.Needs.{needs}
+use Rattle.words.specs.Grounds.{first}
 use Rattle.words.specs.Choice.{when}
-use Rattle.am9517.specs.Answers.{outcome}
+use Rattle.am9517.specs.Registers.{portRead, value, afterRead}
+use Rattle.am9517.specs.Answers.{outcome, readOf}
+use Rattle.am9517.specs.declared.Controller.{Controller}
+use Rattle.am9517.specs.declared.Outcome.{Outcome}
 use Rattle.am9517.proofs.RefusalLaws.{read-valid}
+use Rattle.am9517.proofs.RegisterLaws.{read-register, less, port-value, port-left}
 use Rattle.am9517.proofs.StateLaws.{fields}
 use Rattle.am9517.proofs.Controller.read.Statement.{statement}
 use Rattle.am9517.proofs.Controller.read.Tie as tie
 
+status-requires : tie.Need-status-requires
+status-requires c κs = fields _ (read-valid (c .before .before .before .args .self) (c .before .before .before .args .reg) (sym (c .before .before .read-refusal .ensures) ∙ c .before .if1 .taken)) .tc
+
+module _ (c : tie.After-answered) where
+  abbrev s : Controller
+  s = c .before .before .before .args .self
+
+  abbrev reg : ℕ
+  reg = c .before .before .before .args .reg
+
+  abbrev Told : Type 0
+  Told = _≡_ {A = Outcome} (record { controller = c .before .if1 .next; answer = c .answered .result }) (readOf s reg)
+
+  -- accepted: the state and the byte are what the register's rule leaves and gives
+  given : (x : Controller) (v : ℕ) → c .before .before .read-refusal .result ≡ 0 → c .before .if1 .next ≡ x → c .before .if1 .value ≡ v → afterRead s reg ≡ x → value s reg ≡ v → Told
+  unfolding outcome when
+  given x v z e f a b = simp (c .answered .ensures, sym (c .before .before .read-refusal .ensures), eq-eqb _ _ z, e, f, a, b)
+
+  -- refused: the state is the old one
+  kept : (c .before .before .read-refusal .result ≡ 0 → ⊥) → c .before .if1 .next ≡ s → Told
+  unfolding outcome when
+  kept z e = simp (c .answered .ensures, sym (c .before .before .read-refusal .ensures), ne-eqb _ _ z, e)
+
+  at : (k : ℕ) (x : Controller) → reg ≡ k → afterRead s k ≡ x → afterRead s reg ≡ x
+  at k x e a = ap (afterRead s) e ∙ a
+
+  at-value : (k v : ℕ) → reg ≡ k → value s k ≡ v → value s reg ≡ v
+  at-value k v e a = ap (value s) e ∙ a
+
 returns : tie.Need-returns
-unfolding outcome when
-returns c = simp (c .refused .ensures, sym (c .before .before .read-refusal .ensures), ne-eqb _ _ (c .before .if1 .taken))
-
-value-requires : tie.Need-value-requires
-value-requires c κs = fields _ (read-valid (c .before .before .args .self) (c .before .before .args .reg) (sym (c .before .read-refusal .ensures) ∙ c .if1 .left)) .tc
-
-returns-2 : tie.Need-returns-2
-unfolding outcome when
-returns-2 c = simp (sym (c .before .before .before .read-refusal .ensures), eq-eqb _ _ (c .before .before .if1 .left), c .after-read .ensures, c .before .value .ensures)
+unfolding afterRead value first when portRead
+returns c =
+    ⊎-elim (λ w. given c _ _ (w .0 .taken) (w .3) (w .4) (at c 8 _ (w .1 .keys1) refl) (at-value c 8 _ (w .1 .keys1) (sym (w .2 .ensures))))
+    (⊎-elim (λ w. given c _ _ (w .0 .taken) (w .2) (w .3) (at c 0xD _ (w .1 .keys2) refl) (at-value c 0xD _ (w .1 .keys2) refl))
+    (⊎-elim (λ w.
+    let small : reg c ≤ 7 = less (reg c) 7 (read-register (s c) (reg c) (sym (c .before .before .read-refusal .ensures) ∙ w .0 .taken) (w .1 .rest .1)) (w .1 .rest .0 .1) in
+    let port : reg c / 2 % 4 ≡ reg c / 2 = mod-eq-of-lt (omega arith) in
+    given c _ _ (w .0 .taken) (w .6) (w .7) (port-left (s c) (reg c) small ∙ simp (w .5 .ensures)) (port-value (s c) (reg c) small ∙ simp (port, w .4 .ensures, w .3 .ensures)))
+    (λ w. kept c (w .0 .left) (w .1)))) (c .before .if1 .came)
 
 pub read-spec : {M : Type 1} → statement M
 read-spec =
@@ -25,7 +63,11 @@ read-spec =
     (tie.spec
     (search needs)
     (search needs)
-    returns
-    value-requires
+    status-requires
     (search needs)
-    returns-2)
+    (search needs)
+    (search needs)
+    (search needs)
+    (search needs)
+    (search needs)
+    returns)
