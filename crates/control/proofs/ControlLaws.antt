@@ -6,19 +6,21 @@ use mathlib.Core.List.{List}
 use native.Mathlib.Omega.{arith}
 use lib.ListN.{length, replicate, length-replicate}
 use Rattle.am9517.specs.declared.Controller.{Controller}
-use Rattle.am9517.specs.declared.Answer.{Answer}
+use Rattle.sheet.specs.declared.SheetAnswer.{SheetAnswer}
+use Rattle.sheet.specs.declared.forms.Form.the-variants.{One}
 use Rattle.sheet.specs.Sheet.{Stored, stored, sheetWriteOf}
 use Rattle.text.specs.Text.{page, put}
+use Rattle.answers.specs.Answers.{bytesAnswer}
 use Rattle.text.proofs.TextLaws.{stands-whole}
-use Rattle.control.specs.Control.{storedText, sheetText}
+use Rattle.control.specs.Control.{sheetSaid, sheetText}
 
 -- a sheet written into n bytes 0xEE
-pub sheet-told : (c : Controller) (n r : ℕ) (slice filled written : List ℕ) (a : Answer) → length slice ≡ n
-    → page filled r ≡ put (page slice 0) (replicate n 238) → stored a written ≡ sheetWriteOf c filled
-    → storedText a written ≡ sheetText c n
+pub sheet-told : (c : Controller) (n r : ℕ) (slice filled written : List ℕ) (a : SheetAnswer) → length slice ≡ n
+    → page filled r ≡ put (page slice 0) (replicate n 238) → stored a written ≡ sheetWriteOf One c filled
+    → sheetSaid a (bytesAnswer written) ≡ sheetText c n
 unfolding sheetText
 sheet-told c n r slice filled written a l e w =
     let all : filled ≡ replicate n 238 = stands-whole (replicate n 238) slice filled r e (omega (arith, length-replicate {A = ℕ} n 238)) in
-    let s = sheetWriteOf c (replicate n 238) in
-    let same : stored a written ≡ s = w ∙ ap (sheetWriteOf c) all in
-    ap (λ (x : Stored). storedText (x .answer) (x .bytes)) same
+    let s = sheetWriteOf One c (replicate n 238) in
+    let same : stored a written ≡ s = w ∙ ap (sheetWriteOf One c) all in
+    ap (λ (x : Stored). sheetSaid (x .answer) (bytesAnswer (x .bytes))) same

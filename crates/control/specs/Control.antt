@@ -1,5 +1,5 @@
 -- What each command on the controller answers.
-use Prim.Native.Nat.{ℕ, _/_}
+use Prim.Native.Nat.{ℕ, _*_, _/_}
 use mathlib.Core.Bool.{true, false}
 use mathlib.Core.List.{List, [], _∷_, _++_}
 use lib.Dec.{eqb, leb}
@@ -9,17 +9,20 @@ use Rattle.words.specs.Grounds.{_if_, first}
 use Rattle.am9517.specs.State.{fresh}
 use Rattle.am9517.specs.Answers.{writeOf, readOf, pinsOf, resetOf, grantOf}
 use Rattle.am9517.specs.declared.Controller.{Controller}
-use Rattle.am9517.specs.declared.Answer.{Answer}
-use Rattle.am9517.specs.declared.Answer.the-variants.{Done, Value, Refused}
+use Rattle.sheet.specs.declared.SheetAnswer.{SheetAnswer}
+use Rattle.sheet.specs.declared.SheetAnswer.the-variants.{Done, Refused}
+use Rattle.sheet.specs.declared.SheetRead.{SheetRead}
+use Rattle.sheet.specs.declared.forms.Form.the-variants.{One}
+use Rattle.sheet.specs.Form.{bodySize}
 use Rattle.sheet.specs.Body.{bodyOf, stateOf}
 use Rattle.sheet.specs.Sheet.{sheetWriteOf, sheetReadOf}
 use Rattle.text.specs.Text.{codes}
 use Rattle.text.specs.Numbers.{numberOf}
 use Rattle.text.specs.Hex.{hexText, isBytes, bytesIn}
-use Rattle.answers.specs.Answers.{Reply, reply, errorReply, outcomeReply, okText, refusedText, valueText, bytesAnswer, numbered, wordMost}
+use Rattle.answers.specs.Answers.{Reply, reply, errorReply, outcomeReply, okText, refusedText, bytesAnswer, numbered, wordMost}
 
 abbrev pub stateText : Controller → List ℕ
-stateText c = codes "state " ++ hexText (bodyOf c)
+stateText c = codes "state " ++ hexText (bodyOf One c)
 
 abbrev pub writeReply : Controller → List ℕ → List ℕ → Reply
 writeReply c reg byte =
@@ -35,16 +38,15 @@ pinsReply c levels = numbered (numberOf wordMost levels) (λ (p : ℕ). outcomeR
 
 -- "the state is now these 48 bytes, taken with no range check"
 abbrev pub stateReply : Controller → List ℕ → Reply
-stateReply c digits = when (isBytes digits and eqb (length digits) 96) (reply (stateOf (bytesIn digits)) okText) (errorReply c)
+stateReply c digits = when (isBytes digits and eqb (length digits) (2 * bodySize One)) (reply (stateOf One (bytesIn digits)) okText) (errorReply c)
 
--- the slice after a sheet was written, or the refusal
-unfoldable pub storedText : Answer → List ℕ → List ℕ
-storedText Done bs = bytesAnswer bs
-storedText (Value v) bs = valueText false v
-storedText (Refused n) bs = refusedText n
+-- a text where a sheet was written or read, or the refusal
+unfoldable pub sheetSaid : SheetAnswer → List ℕ → List ℕ
+sheetSaid Done text = text
+sheetSaid (Refused n) text = refusedText n
 
 unfoldable pub sheetText : Controller → ℕ → List ℕ
-sheetText c n = let s = sheetWriteOf c (replicate n 238) in storedText (s .answer) (s .bytes)
+sheetText c n = let s = sheetWriteOf One c (replicate n 238) in sheetSaid (s .answer) (bytesAnswer (s .bytes))
 
 -- "a sheet is written into a slice of N bytes 0xEE (N at most 70,000)"; the slice is lent from one of this length
 abbrev pub sheetReply : ℕ → Controller → List ℕ → Reply
@@ -53,9 +55,12 @@ sheetReply spare c size =
     (λ (n : ℕ). when (leb n spare) (reply c (sheetText c n)) (errorReply c))
     (errorReply c)
 
+abbrev pub readSheet : SheetRead → Reply
+readSheet r = reply (r .controller) (sheetSaid (r .answer) okText)
+
 -- "a sheet is read from these bytes"
 abbrev pub loadReply : ℕ → Controller → List ℕ → Reply
-loadReply spare c digits = when (isBytes digits and leb (length digits / 2) spare) (outcomeReply false (sheetReadOf c (bytesIn digits))) (errorReply c)
+loadReply spare c digits = when (isBytes digits and leb (length digits / 2) spare) (readSheet (sheetReadOf One c (bytesIn digits))) (errorReply c)
 
 -- what the commands 1 to 10 do to the controller, and what they answer; `spare` bytes are lent for a sheet
 unfoldable pub replyTo : ℕ → Controller → List ℕ → List ℕ → ℕ → Reply

@@ -1,13 +1,14 @@
 // The commands on the controller.
-use am9517::Answer;
 use am9517::Controller;
 use answers::Told;
 use answers::agree;
 use answers::bytes_said;
 use answers::fault;
+use answers::ok;
 use answers::refused;
 use answers::tell;
-use answers::value;
+use sheet::BODY;
+use sheet::SheetAnswer;
 use sheet::body_of;
 use sheet::state_of;
 use text::hex::is_bytes;
@@ -23,9 +24,9 @@ ghost use lib.ListN.{length};
 ghost use Rattle.am9517.specs.State.{fresh};
 ghost use Rattle.am9517.specs.Answers.{resetOf, grantOf};
 ghost use Rattle.text.specs.Text.{page, put};
-ghost use Rattle.answers.specs.Answers.{okText, reply, outcomeReply, said, saying};
+ghost use Rattle.answers.specs.Answers.{okText, bytesAnswer, reply, outcomeReply, said, saying};
 ghost use mathlib.Core.Bool.{true, false};
-ghost use Rattle.control.specs.Control.{stateText, storedText, sheetText, writeReply, readReply, pinsReply, stateReply, sheetReply, loadReply, replyTo};
+ghost use Rattle.control.specs.Control.{stateText, sheetSaid, sheetText, writeReply, readReply, pinsReply, stateReply, sheetReply, loadReply, replyTo};
 
 // The largest register number, limit or count that a command takes.
 const WORD: u32 = 0xffff_ffff;
@@ -44,10 +45,10 @@ fn set_state(c: Controller, digits: &[u8], out: &mut [u8], at: usize) -> Told
     if !is_bytes(digits) {
         return fault(out, at, c);
     }
-    if digits.len() != 96 {
+    if digits.len() != 2 * BODY {
         return fault(out, at, c);
     }
-    let mut body = [0u8; 48];
+    let mut body = [0u8; BODY];
     store(&mut body, 0, digits);
     let next = state_of(body);
     agree(out, at, next)
@@ -117,13 +118,21 @@ fn grant(c: Controller, out: &mut [u8], at: usize) -> Told
     tell(out, at, done, true)
 }
 
-fn sheet_said(answer: Answer, bytes: &[u8], out: &mut [u8], at: usize) -> usize
-    ensures { λ r. ⌜ page (now (out .exit)) r ≡ put (page (now (out .entry)) at) (storedText answer (now (bytes .entry))) ⌝ }
+fn sheet_said(answer: SheetAnswer, bytes: &[u8], out: &mut [u8], at: usize) -> usize
+    ensures { λ r. ⌜ page (now (out .exit)) r ≡ put (page (now (out .entry)) at) (sheetSaid answer (bytesAnswer (now (bytes .entry)))) ⌝ }
 {
     match answer {
-        Answer::Done => bytes_said(out, at, bytes),
-        Answer::Value(v) => value(out, at, v, false),
-        Answer::Refused(n) => refused(out, at, n),
+        SheetAnswer::Done => bytes_said(out, at, bytes),
+        SheetAnswer::Refused(n) => refused(out, at, n),
+    }
+}
+
+fn load_said(answer: SheetAnswer, out: &mut [u8], at: usize) -> usize
+    ensures { λ r. ⌜ page (now (out .exit)) r ≡ put (page (now (out .entry)) at) (sheetSaid answer okText) ⌝ }
+{
+    match answer {
+        SheetAnswer::Done => ok(out, at),
+        SheetAnswer::Refused(n) => refused(out, at, n),
     }
 }
 
@@ -169,8 +178,14 @@ fn load(c: Controller, digits: &[u8], spare: &mut [u8], out: &mut [u8], at: usiz
         return fault(out, at, c);
     }
     store(spare, 0, digits);
-    let done = sheet::read(c, &spare[0..n]);
-    tell(out, at, done, false)
+    let told = sheet::read(c, &spare[0..n]);
+    let controller = told.controller;
+    let answer = told.answer;
+    let next = load_said(answer, out, at);
+    Told {
+        controller,
+        at: next,
+    }
 }
 
 // Commands 1 to 10.

@@ -4,26 +4,11 @@ use Prim.Native.Nat.{ℕ, zero, suc, _+_, _-_, _≤_, _<_}
 use mathlib.Core.Path.{_≡_, refl, sym, ap, _∙_}
 use mathlib.Core.List.{List, [], _∷_, _++_, append-assoc, append-nil}
 use native.Mathlib.Omega.{arith}
-use native.Mathlib.Numerals.{add-one}
 use native.Mathlib.Nat.{add-zero}
 use lib.ListN.{length, getD, take, drop, length-append, length-drop, drop-of-length-le, take-append-drop}
-use lib.Seq.{take-at, drop-at, drop-drop, drop-cons, take-suc, take-length, length-take-le, paste, length-paste, getD-append-add}
+use lib.Seq.{take-at, drop-at, drop-drop, drop-cons, take-all, take-length, length-take-le, take-append-seam, paste, length-paste, getD-append-add, getD-drop}
 use Rattle.words.specs.Bytes.{wordOf, lowByte, highByte}
 use Rattle.sheet.specs.Bytes.{word, total, placed, last}
-
-total-append : (xs ys : List ℕ) → total (xs ++ ys) ≡ total xs + total ys
-unfolding total
-total-append [] ys = omega arith
-total-append (x ∷ xs) ys = omega (arith, total-append xs ys)
-
-pub total-none : total [] ≡ 0
-unfolding total
-total-none = refl
-
--- a turn of the loop that sums
-pub total-next : (b : List ℕ) (i : ℕ) → i < length b → total (take (i + 1) b) ≡ total (take i b) + getD b i 0
-unfolding total
-total-next b i h = rw (add-one, take-suc b i 0 h, total-append (take i b) (getD b i 0 ∷ [])) (omega arith)
 
 pub placed-all : (d : List ℕ) (at : ℕ) (xs : List ℕ) → paste d at xs (length xs) ≡ placed d at xs
 placed-all d at xs = ap (λ (l : List ℕ). take at d ++ l ++ drop (at + length xs) d) (take-length xs)
@@ -46,6 +31,19 @@ placed-next d at xs ys h =
     ∙ drop-drop (length ys) end d
     ∙ ap (λ (k : ℕ). drop k d) sums in
     rw (front, back, append-assoc (take at d) xs ys)
+
+-- the same of two stores
+pub stored-next : (d one two xs ys : List ℕ) (at to : ℕ) → at + length xs + length ys ≤ length d
+    → one ≡ placed d at xs → to ≡ at + length xs → two ≡ placed one to ys → two ≡ placed d at (xs ++ ys)
+stored-next d one two xs ys at to h e1 ea e2 = rw (e2, e1, ea) (placed-next d at xs ys h)
+
+-- a piece that was put stands there
+pub placed-stands : (d one xs : List ℕ) (at n : ℕ) → at ≤ length d → length xs ≡ n → one ≡ placed d at xs → take n (drop at one) ≡ xs
+placed-stands d one xs at n h size e =
+    let rest = drop (at + length xs) d in
+    let behind : drop at one ≡ xs ++ rest =
+    ap (drop at) (e ∙ append-assoc (take at d) xs rest) ∙ drop-at (take at d) (xs ++ rest) at (length-take-le at d h) in
+    ap (take n) behind ∙ ap (λ (k : ℕ). take k (xs ++ rest)) (sym size) ∙ take-append-seam xs rest
 
 -- nothing stands behind a piece put at the end
 module _ (d xs : List ℕ) (n : ℕ) (size : length xs ≡ n) (room : n ≤ length d) where
@@ -82,6 +80,11 @@ word-behind xs ys k =
     let e : length xs + k + 1 ≡ length xs + (k + 1) = omega arith in
     rw (e, getD-append-add xs ys k 0, getD-append-add xs ys (k + 1) 0)
 
+pub word-drop : (xs : List ℕ) (n k : ℕ) → word (drop n xs) k ≡ word xs (n + k)
+word-drop xs n k =
+    let e : n + k + 1 ≡ n + (k + 1) = omega arith in
+    rw (e, getD-drop n xs k 0, getD-drop n xs (k + 1) 0)
+
 pub word-at-seam : (xs ys : List ℕ) → word (xs ++ ys) (length xs) ≡ word ys 0
 word-at-seam xs ys = ap (word (xs ++ ys)) (sym (add-zero (length xs))) ∙ word-behind xs ys 0
 
@@ -90,6 +93,13 @@ abbrev pub cells : ℕ → ℕ → List ℕ → List ℕ
 cells k zero xs = []
 cells k (suc n) xs = getD xs k 0 ∷ cells (suc k) n xs
 
-pub cells-all : (n k : ℕ) (xs : List ℕ) → length xs ≡ k + n → drop k xs ≡ cells k n xs
-cells-all zero k xs e = drop-of-length-le xs {i = k} (omega arith)
-cells-all (suc n) k xs e = drop-cons xs k 0 (omega arith) ∙ ap (λ (l : List ℕ). getD xs k 0 ∷ l) (cells-all n (suc k) xs (omega arith))
+part-cells : (n k : ℕ) (xs : List ℕ) → k + n ≤ length xs → take n (drop k xs) ≡ cells k n xs
+part-cells zero k xs h = refl
+part-cells (suc n) k xs h =
+    ap (take (suc n)) (drop-cons xs k 0 (omega arith)) ∙ ap (λ (l : List ℕ). getD xs k 0 ∷ l) (part-cells n (suc k) xs (omega arith))
+
+pub first-cells : (n : ℕ) (xs : List ℕ) → n ≤ length xs → take n xs ≡ cells 0 n xs
+first-cells n xs h = part-cells n 0 xs (omega arith)
+
+pub all-cells : (n : ℕ) (xs : List ℕ) → length xs ≡ n → xs ≡ cells 0 n xs
+all-cells n xs e = sym (take-all n xs (omega arith)) ∙ first-cells n xs (omega arith)

@@ -1,20 +1,20 @@
--- The 48 bytes of a state, and the state that 48 bytes tell.
-use Prim.Native.Nat.{ℕ, _+_, _*_}
+-- The bytes of a state in a form, and the state that a body of that form tells.
+use Prim.Native.Nat.{ℕ, _+_}
+use mathlib.Core.Bool.{cond}
 use mathlib.Core.List.{List, [], _∷_, _++_, map}
-use lib.ListN.{getD}
-use Rattle.am9517.specs.State.{Field, Command, Tc, Request, Mask, Temporary, FlipFlop, Pins, Lowest, InService, Serving, LatchFull, Latch, field, make, channel}
+use lib.Dec.{eqb}
+use lib.ListN.{getD, drop}
+use Rattle.am9517.specs.State.{Field, tag, field, make, channel}
 use Rattle.am9517.specs.declared.Channel.{Channel}
 use Rattle.am9517.specs.declared.Controller.{Controller}
+use Rattle.sheet.specs.declared.forms.Form.{Form}
 use Rattle.sheet.specs.Bytes.{wordBytes, word}
+use Rattle.sheet.specs.Form.{front, behind, channelsAt, channelPlace}
 
 -- "per channel base address, current address, base count, current count, mode (9 bytes each, 0 to 35)"
 abbrev pub channelBytes : Channel → List ℕ
 channelBytes c =
     wordBytes (c .«base_address») ++ wordBytes (c .address) ++ wordBytes (c .«base_count») ++ wordBytes (c .count) ++ (c .mode ∷ [])
-
--- where channel n begins
-abbrev pub channelPlace : ℕ → ℕ
-channelPlace n = 9 * n
 
 -- the channel that the nine bytes from place k on tell
 abbrev pub channelAt : List ℕ → ℕ → Channel
@@ -27,40 +27,22 @@ channelAt b k =
       mode = getD b (k + 8) 0;
     }
 
--- "36 command; 37 TC; 38 request; 39 mask; 40 temporary; 41 flip-flop; 42 pins; 43 lowest; 44 in service; 45 serving;
--- 46 latch full; 47 latch"
-abbrev pub place : Field → ℕ
-place Command = 36
-place Tc = 37
-place Request = 38
-place Mask = 39
-place Temporary = 40
-place FlipFlop = 41
-place Pins = 42
-place Lowest = 43
-place InService = 44
-place Serving = 45
-place LatchFull = 46
-place Latch = 47
+abbrev pub channelsBytes : Controller → List ℕ
+channelsBytes s = channelBytes (channel s 0) ++ channelBytes (channel s 1) ++ channelBytes (channel s 2) ++ channelBytes (channel s 3)
 
--- in the order of their places
-abbrev pub fieldBytes : Controller → List ℕ
-fieldBytes s =
-    map (field s)
-    (Command ∷ Tc ∷ Request ∷ Mask ∷ Temporary ∷ FlipFlop ∷ Pins ∷ Lowest ∷ InService ∷ Serving ∷ LatchFull ∷ Latch ∷ [])
+-- the fields before the channels, the channels, the fields behind them
+unfoldable pub bodyOf : Form → Controller → List ℕ
+bodyOf form s = map (field s) (front form) ++ (channelsBytes s ++ map (field s) behind)
 
--- "Body, 48 bytes"
-unfoldable pub bodyOf : Controller → List ℕ
-bodyOf s =
-    channelBytes (channel s 0)
-    ++ channelBytes (channel s 1)
-    ++ channelBytes (channel s 2)
-    ++ channelBytes (channel s 3)
-    ++ fieldBytes s
+-- field f, where these fields have a byte each from place k on; `other` where it is none of them
+abbrev pub fieldIn : List Field → ℕ → List ℕ → Field → ℕ → ℕ
+fieldIn [] k b f other = other
+fieldIn (g ∷ gs) k b f other = cond (eqb (tag g) (tag f)) (getD b k 0) (fieldIn gs (k + 1) b f other)
 
--- the state that the first 48 bytes tell, in its ranges or not
-unfoldable pub stateOf : List ℕ → Controller
-stateOf b =
+-- the state that a body tells, in its ranges or not: a field without a place in the form is 0
+unfoldable pub stateOf : Form → List ℕ → Controller
+stateOf form b =
+    let core = drop (channelsAt form) b in
     make
-    (channelAt b (channelPlace 0) ∷ channelAt b (channelPlace 1) ∷ channelAt b (channelPlace 2) ∷ channelAt b (channelPlace 3) ∷ [])
-    (λ (f : Field). getD b (place f) 0)
+    (channelAt core (channelPlace 0) ∷ channelAt core (channelPlace 1) ∷ channelAt core (channelPlace 2) ∷ channelAt core (channelPlace 3) ∷ [])
+    (λ (f : Field). fieldIn behind (channelPlace 4) core f (fieldIn (front form) 0 b f 0))

@@ -16,6 +16,13 @@ unfoldable pub total : List ℕ → ℕ
 total [] = 0
 total (b ∷ bs) = b + total bs
 
+-- of four bytes, and of sixteen, from place k on
+abbrev pub fourOf : List ℕ → ℕ → ℕ
+fourOf b k = getD b k 0 + getD b (k + 1) 0 + getD b (k + 2) 0 + getD b (k + 3) 0
+
+abbrev pub sixteenOf : List ℕ → ℕ → ℕ
+sixteenOf b k = fourOf b k + fourOf b (k + 4) + fourOf b (k + 8) + fourOf b (k + 12)
+
 -- d with xs from place `at` on: "the rest isn't touched"
 abbrev pub placed : List ℕ → ℕ → List ℕ → List ℕ
 placed d at xs = take at d ++ xs ++ drop (at + length xs) d

@@ -1,6 +1,9 @@
-// The 48 bytes of a body, to and from a state.
+// The bytes of a body, to and from a state.
 use crate::bytes::store;
 use crate::bytes::word;
+use crate::forms::BODY;
+use crate::forms::Form;
+use crate::forms::channels_at;
 use am9517::Channel;
 use am9517::Controller;
 use words::bytes::high_byte;
@@ -8,7 +11,12 @@ use words::bytes::low_byte;
 ghost use mathlib.Core.Path.{_≡_};
 ghost use Prim.Native.Nat.{_+_, _≤_};
 ghost use lib.ListN.{length};
-ghost use Rattle.sheet.specs.Body.{channelBytes, channelAt, fieldBytes, bodyOf, stateOf};
+ghost use mathlib.Core.List.{map};
+ghost use Rattle.am9517.specs.State.{field};
+ghost use Rattle.sheet.specs.declared.forms.Form.the-variants.{One};
+ghost use Rattle.sheet.specs.Bytes.{placed};
+ghost use Rattle.sheet.specs.Form.{behind, channelPlace, bodySize};
+ghost use Rattle.sheet.specs.Body.{channelBytes, channelsBytes, channelAt, bodyOf, stateOf};
 
 fn channel_bytes(c: Channel) -> [u8; 9]
     ensures { λ r. ⌜ r ≡ channelBytes c ⌝ }
@@ -27,7 +35,7 @@ fn channel_bytes(c: Channel) -> [u8; 9]
 }
 
 fn field_bytes(c: Controller) -> [u8; 12]
-    ensures { λ r. ⌜ r ≡ fieldBytes c ⌝ }
+    ensures { λ r. ⌜ r ≡ map (field c) behind ⌝ }
 {
     [
         c.command,
@@ -45,25 +53,45 @@ fn field_bytes(c: Controller) -> [u8; 12]
     ]
 }
 
-pub fn body_of(c: Controller) -> [u8; 48]
-    ensures { λ r. ⌜ r ≡ bodyOf c ⌝ }
+// A channel, and all four, stored from place `at` on; the place behind them.
+fn store_channel(c: Channel, out: &mut [u8], at: usize) -> usize
+    requires { ⌜ at + channelPlace 1 ≤ length (now out) ⌝ }
+    ensures { λ r. ⌜ (now (out .exit) ≡ placed (now (out .entry)) at (channelBytes c)) × (r ≡ at + channelPlace 1) ⌝ }
 {
-    let first = channel_bytes(c.channels[0]);
-    let second = channel_bytes(c.channels[1]);
-    let third = channel_bytes(c.channels[2]);
-    let fourth = channel_bytes(c.channels[3]);
+    let bytes = channel_bytes(c);
+    store(out, at, &bytes)
+}
+
+fn store_channels(c: Controller, out: &mut [u8], at: usize) -> usize
+    requires { ⌜ at + channelPlace 4 ≤ length (now out) ⌝ }
+    ensures { λ r. ⌜ (now (out .exit) ≡ placed (now (out .entry)) at (channelsBytes c)) × (r ≡ at + channelPlace 4) ⌝ }
+{
+    let at = store_channel(c.channels[0], out, at);
+    let at = store_channel(c.channels[1], out, at);
+    let at = store_channel(c.channels[2], out, at);
+    store_channel(c.channels[3], out, at)
+}
+
+// The body is stored from place `start` on.
+pub(crate) fn store_body(form: Form, c: Controller, out: &mut [u8], start: usize)
+    requires { ⌜ start + bodySize form ≤ length (now out) ⌝ }
+    ensures { λ _. ⌜ now (out .exit) ≡ placed (now (out .entry)) start (bodyOf form c) ⌝ }
+{
     let fields = field_bytes(c);
-    let mut body = [0; 48];
-    store(&mut body, 0, &first);
-    store(&mut body, 9, &second);
-    store(&mut body, 18, &third);
-    store(&mut body, 27, &fourth);
-    store(&mut body, 36, &fields);
+    let at = store_channels(c, out, start + channels_at(form));
+    store(out, at, &fields);
+}
+
+pub fn body_of(c: Controller) -> [u8; BODY]
+    ensures { λ r. ⌜ r ≡ bodyOf One c ⌝ }
+{
+    let mut body = [0; BODY];
+    store_body(Form::One, c, &mut body, 0);
     body
 }
 
 fn channel_at(b: &[u8], k: usize) -> Channel
-    requires { ⌜ k + 9 ≤ length (now b) ⌝ }
+    requires { ⌜ k + channelPlace 1 ≤ length (now b) ⌝ }
     ensures { λ r. ⌜ r ≡ channelAt (now (b .entry)) k ⌝ }
 {
     Channel {
@@ -75,35 +103,37 @@ fn channel_at(b: &[u8], k: usize) -> Channel
     }
 }
 
-// The state that the first 48 bytes tell.
-pub(crate) fn state_in(b: &[u8]) -> Controller
-    requires { ⌜ 48 ≤ length (now b) ⌝ }
-    ensures { λ r. ⌜ r ≡ stateOf (now (b .entry)) ⌝ }
+// The state that the body at the front of these bytes tells.
+pub(crate) fn state_in(form: Form, b: &[u8]) -> Controller
+    requires { ⌜ bodySize form ≤ length (now b) ⌝ }
+    ensures { λ r. ⌜ r ≡ stateOf form (now (b .entry)) ⌝ }
 {
-    let first = channel_at(b, 0);
-    let second = channel_at(b, 9);
-    let third = channel_at(b, 18);
-    let fourth = channel_at(b, 27);
+    let at = channels_at(form);
+    let core = &b[at..];
+    let first = channel_at(core, 0);
+    let second = channel_at(core, 9);
+    let third = channel_at(core, 18);
+    let fourth = channel_at(core, 27);
     Controller {
         channels: [first, second, third, fourth],
-        command: b[36],
-        tc: b[37],
-        request: b[38],
-        mask: b[39],
-        temporary: b[40],
-        flip_flop: b[41],
-        pins: b[42],
-        lowest: b[43],
-        in_service: b[44],
-        serving: b[45],
-        latch_full: b[46],
-        latch: b[47],
+        command: core[36],
+        tc: core[37],
+        request: core[38],
+        mask: core[39],
+        temporary: core[40],
+        flip_flop: core[41],
+        pins: core[42],
+        lowest: core[43],
+        in_service: core[44],
+        serving: core[45],
+        latch_full: core[46],
+        latch: core[47],
     }
 }
 
 // No range is asked: a state out of its ranges is told too.
-pub fn state_of(body: [u8; 48]) -> Controller
-    ensures { λ r. ⌜ r ≡ stateOf body ⌝ }
+pub fn state_of(body: [u8; BODY]) -> Controller
+    ensures { λ r. ⌜ r ≡ stateOf One body ⌝ }
 {
-    state_in(&body)
+    state_in(Form::One, &body)
 }

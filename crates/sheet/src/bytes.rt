@@ -1,9 +1,12 @@
 // Bytes of a slice: a word read, a sum taken, a piece stored.
+use crate::forms::Form;
+use crate::forms::channels_at;
 use words::bytes::word_of;
 ghost use mathlib.Core.Path.{_≡_};
 ghost use Prim.Native.Nat.{_+_, _<_, _≤_};
 ghost use lib.ListN.{length, take};
-ghost use Rattle.sheet.specs.Bytes.{word, total, placed};
+ghost use Rattle.sheet.specs.Bytes.{word, fourOf, sixteenOf, total, placed};
+ghost use Rattle.sheet.specs.Form.{bodySize};
 
 // The word at place k.
 pub(crate) fn word(b: &[u8], k: usize) -> u16
@@ -20,18 +23,29 @@ fn wide(b: u8) -> u16
     b as u16
 }
 
-// The sum of the first n bytes, few enough for a word.
-pub(crate) fn sum(b: &[u8], n: usize) -> u16
-    requires { ⌜ (n ≤ length (now b)) × (n ≤ 256) ⌝ }
-    ensures { λ r. ⌜ r ≡ total (take n (now (b .entry))) ⌝ }
+// The sum of the four bytes from place k on.
+fn four(b: &[u8], k: usize) -> u16
+    requires { ⌜ k + 4 ≤ length (now b) ⌝ }
+    ensures { λ r. ⌜ (r ≡ fourOf (now (b .entry)) k) × (r ≤ 1020) ⌝ }
 {
-    let mut i: usize = 0;
-    let mut t: u16 = 0;
-    while i < n {
-        t += wide(b[i]);
-        i += 1;
-    }
-    t
+    wide(b[k]) + wide(b[k + 1]) + wide(b[k + 2]) + wide(b[k + 3])
+}
+
+fn sixteen(b: &[u8], k: usize) -> u16
+    requires { ⌜ k + 16 ≤ length (now b) ⌝ }
+    ensures { λ r. ⌜ (r ≡ sixteenOf (now (b .entry)) k) × (r ≤ 4080) ⌝ }
+{
+    four(b, k) + four(b, k + 4) + four(b, k + 8) + four(b, k + 12)
+}
+
+// The sum of a body's bytes. With no loop, it stays a function of its own and is compiled to vector code.
+pub(crate) fn sum(form: Form, b: &[u8]) -> u16
+    requires { ⌜ bodySize form ≤ length (now b) ⌝ }
+    ensures { λ r. ⌜ r ≡ total (take (bodySize form) (now (b .entry))) ⌝ }
+{
+    let at = channels_at(form);
+    let core = &b[at..];
+    sixteen(core, 0) + sixteen(core, 16) + sixteen(core, 32)
 }
 
 // The piece is stored from place `at` on; the place behind it.

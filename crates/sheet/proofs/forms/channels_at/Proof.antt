@@ -1,0 +1,16 @@
+use mathlib.Core.Path.{_≡_, refl}
+use Rattle.sheet.specs.declared.forms.Form.{Form}
+use Rattle.sheet.specs.declared.forms.Form.the-variants.{One}
+use Rattle.sheet.specs.Form.{channelsAt}
+use Rattle.sheet.proofs.forms.channels_at.Statement.{statement}
+use Rattle.sheet.proofs.forms.channels_at.Tie as tie
+
+-- the one form there is
+is : (form : Form) → 0 ≡ channelsAt form
+is One = refl
+
+returns : tie.Need-returns
+returns c = is (c .args .form)
+
+pub channels-at-spec : {M : Type 1} → statement M
+channels-at-spec = tie.close (tie.spec returns)
