@@ -16,7 +16,7 @@ use Rattle.words.proofs.ChoiceLaws.{never}
 use Rattle.am9517.proofs.StateLaws.{Fields, Ranges, ranges, of-ranges, modes-of, and-left, and-right}
 
 -- all are bytes
-abbrev Bytes : List ℕ → Type 0
+abbrev pub Bytes : List ℕ → Type 0
 Bytes [] = Unit {0}
 Bytes (b ∷ bs) = (b < 256) × Bytes bs
 
@@ -52,7 +52,7 @@ abbrev openMasks : List ℕ
 openMasks = 0xfe ∷ 0xfc ∷ 0xfe ∷ 0 ∷ []
 
 abbrev pairMasks : List ℕ
-pairMasks = 0xfe ∷ 0xfc ∷ []
+pairMasks = 0xfc ∷ 0xfe ∷ []
 
 idle-bytes : Bytes (fourMasks idleMasks)
 idle-bytes = (omega arith, (omega arith, (omega arith, (omega arith, (omega arith, (omega arith, (omega arith, (omega arith, tt))))))))
@@ -86,14 +86,26 @@ module _ (b : ℕ) (h : b < 256) where
   to0 = record { told = λ e. omega (arith, high-bits 8 0 b (omega arith)); holds = λ e. high-bits 8 0 b (omega arith) ∙ omega arith }
 
 -- the tests of `valid`
-abbrev pub pairTest : Controller → Bool
-pairTest s = eqb (bitAnd (pairOf s) 0xfcfe) 0
+abbrev idleFlags : Controller → Bool
+idleFlags s = eqb (bitAnd (flagsOf s) 0xffff_ffff_f0f0_f0f0) 0
+
+abbrev openFlags : Controller → Bool
+openFlags s = eqb (bitAnd (flagsOf s) 0x00fe_fcfe_f0f0_f0f0) 0
+
+abbrev pairTest : Controller → Bool
+pairTest s = eqb (bitAnd (pairOf s) 0xfefc) 0
+
+abbrev latchTest : Controller → Bool
+latchTest s = eqb (s .«latch_full») 1 || eqb (s .latch) 0
 
 abbrev pub idleTest : Controller → Bool
-idleTest s = eqb (bitAnd (flagsOf s) 0xffff_ffff_f0f0_f0f0) 0 && pairTest s
+idleTest s = idleFlags s && pairTest s
+
+abbrev openFields : Controller → Bool
+openFields s = openFlags s && pairTest s
 
 abbrev pub openTest : Controller → Bool
-openTest s = ((eqb (bitAnd (flagsOf s) 0x00fe_fcfe_f0f0_f0f0) 0 && pairTest s) && eqb (s .«in_service») 1) && (eqb (s .«latch_full») 1 || eqb (s .latch) 0)
+openTest s = (openFields s && eqb (s .«in_service») 1) && latchTest s
 
 module _ (s : Controller) (fits : Bytes (flags s)) (both : Bytes (pair s)) where
   -- the last four flags
@@ -112,10 +124,10 @@ module _ (s : Controller) (fits : Bytes (flags s)) (both : Bytes (pair s)) where
         request = to15 _ (fits .1 .0) .told (c .1 .0);
         mask = to15 _ (fits .1 .1 .0) .told (c .1 .1 .0);
         pins = to15 _ (fits .1 .1 .1 .0) .told (c .1 .1 .1 .0);
-        flipFlop = to1 _ (both .0) .told (p .0);
+        flipFlop = to1 _ (both .1 .0) .told (p .1 .0);
         inService = i;
         latchFull = f;
-        lowest = to3 _ (both .1 .0) .told (p .1 .0);
+        lowest = to3 _ (both .0) .told (p .0);
         serving = n;
       }
 
@@ -126,14 +138,14 @@ module _ (s : Controller) (fits : Bytes (flags s)) (both : Bytes (pair s)) where
 
     pair-clear : pairTest s ≡ true
     unfolding joined
-    pair-clear = eq-eqb _ _ (cleared (pair s) pairMasks both pair-bytes (to1 _ (both .0) .holds (f .flipFlop), (to3 _ (both .1 .0) .holds (f .lowest), tt)))
+    pair-clear = eq-eqb _ _ (cleared (pair s) pairMasks both pair-bytes (to3 _ (both .0) .holds (f .lowest), (to1 _ (both .1 .0) .holds (f .flipFlop), tt)))
 
   module _ (m : modesValid s ≡ true) where
     pub idle-told : idleTest s ≡ true → valid s ≡ true
     unfolding joined
     idle-told e =
-        let p : pairTest s ≡ true = and-right (eqb (bitAnd (flagsOf s) 0xffff_ffff_f0f0_f0f0) 0) (pairTest s) e in
-        let c = clear (flags s) (fourMasks idleMasks) fits idle-bytes (eqb-true _ _ (and-left (eqb (bitAnd (flagsOf s) 0xffff_ffff_f0f0_f0f0) 0) (pairTest s) e)) in
+        let p : pairTest s ≡ true = and-right (idleFlags s) (pairTest s) e in
+        let c = clear (flags s) (fourMasks idleMasks) fits idle-bytes (eqb-true _ _ (and-left (idleFlags s) (pairTest s) e)) in
         let i : s .«in_service» ≤ 0 = to0 _ (last .0) .told (c .1 .1 .1 .1 .0) in
         let n : s .serving ≤ 0 = to0 _ (last .1 .0) .told (c .1 .1 .1 .1 .1 .0) in
         let f : s .«latch_full» ≤ 0 = to0 _ (last .1 .1 .0) .told (c .1 .1 .1 .1 .1 .1 .0) in
@@ -159,15 +171,15 @@ module _ (s : Controller) (fits : Bytes (flags s)) (both : Bytes (pair s)) where
     open-told : openTest s ≡ true → valid s ≡ true
     unfolding joined
     open-told e =
-        let a = and-left ((eqb (bitAnd (flagsOf s) 0x00fe_fcfe_f0f0_f0f0) 0 && pairTest s) && eqb (s .«in_service») 1) (eqb (s .«latch_full») 1 || eqb (s .latch) 0) e in
-        let b = and-left (eqb (bitAnd (flagsOf s) 0x00fe_fcfe_f0f0_f0f0) 0 && pairTest s) (eqb (s .«in_service») 1) a in
-        let i : s .«in_service» ≡ 1 = eqb-true _ _ (and-right (eqb (bitAnd (flagsOf s) 0x00fe_fcfe_f0f0_f0f0) 0 && pairTest s) (eqb (s .«in_service») 1) a) in
-        let c = clear (flags s) (fourMasks openMasks) fits open-bytes (eqb-true _ _ (and-left (eqb (bitAnd (flagsOf s) 0x00fe_fcfe_f0f0_f0f0) 0) (pairTest s) b)) in
+        let a = and-left (openFields s && eqb (s .«in_service») 1) (latchTest s) e in
+        let b = and-left (openFields s) (eqb (s .«in_service») 1) a in
+        let i : s .«in_service» ≡ 1 = eqb-true _ _ (and-right (openFields s) (eqb (s .«in_service») 1) a) in
+        let c = clear (flags s) (fourMasks openMasks) fits open-bytes (eqb-true _ _ (and-left (openFlags s) (pairTest s) b)) in
         of-ranges s (record {
           mode = modes-of s m;
-          fields = fields-told openMasks c (and-right (eqb (bitAnd (flagsOf s) 0x00fe_fcfe_f0f0_f0f0) 0) (pairTest s) b) (omega arith) (to3 _ (last .1 .0) .told (c .1 .1 .1 .1 .1 .0)) (to1 _ (last .1 .1 .0) .told (c .1 .1 .1 .1 .1 .1 .0));
+          fields = fields-told openMasks c (and-right (openFlags s) (pairTest s) b) (omega arith) (to3 _ (last .1 .0) .told (c .1 .1 .1 .1 .1 .0)) (to1 _ (last .1 .1 .0) .told (c .1 .1 .1 .1 .1 .1 .0));
           rest = λ z. absurd (omega arith);
-          latch = latch-told _ _ (and-right ((eqb (bitAnd (flagsOf s) 0x00fe_fcfe_f0f0_f0f0) 0 && pairTest s) && eqb (s .«in_service») 1) (eqb (s .«latch_full») 1 || eqb (s .latch) 0) e);
+          latch = latch-told _ _ (and-right (openFields s && eqb (s .«in_service») 1) (latchTest s) e);
         })
 
     latch-holds : (f l : ℕ) → f ≤ 1 → (f ≡ 0 → l ≡ 0) → eqb f 1 || eqb l 0 ≡ true

@@ -13,7 +13,7 @@ abbrev pub flags : Controller → List ℕ
 flags s = s .tc ∷ s .request ∷ s .mask ∷ s .pins ∷ s .«in_service» ∷ s .serving ∷ s .«latch_full» ∷ s .latch ∷ []
 
 abbrev pub pair : Controller → List ℕ
-pair s = s .«flip_flop» ∷ s .lowest ∷ []
+pair s = s .lowest ∷ s .«flip_flop» ∷ []
 
 abbrev pub flagsOf : Controller → ℕ
 flagsOf s = joined (flags s)

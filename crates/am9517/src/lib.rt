@@ -28,7 +28,7 @@ pub struct Channel {
 }
 
 // Every field is a byte, so that a state that breaks a range can be given, and is refused by 1. The order is that of ranges.rt: eight
-// fields asked as one number (the last four are what the end of a service clears), the temporary byte, which a read takes first, three more.
+// fields asked as one number (the last four are what the end of a service clears), the temporary byte, which a read takes first, the command, two more that are asked as one.
 pub struct Controller {
     pub channels: [Channel; 4],
     pub tc: u8,
@@ -39,10 +39,10 @@ pub struct Controller {
     pub serving: u8,
     pub latch_full: u8,
     pub latch: u8,
-    pub temporary: u8,
-    pub command: u8,
     pub flip_flop: u8,
     pub lowest: u8,
+    pub temporary: u8,
+    pub command: u8,
 }
 
 // What an operation says: done; done, with the byte read or the channel granted; or the number of its refusal.

@@ -40,7 +40,7 @@ impl Controller {
     fn pair(self) -> u16
         ensures { λ r. ⌜ r ≡ pairOf self ⌝ }
     {
-        self.flip_flop as u16 + 0x100 * (self.lowest as u16)
+        self.lowest as u16 + 0x100 * (self.flip_flop as u16)
     }
 
     // No range is broken. A mask has the bits that must be zero: idle, then in service.
@@ -51,7 +51,7 @@ impl Controller {
             return false;
         }
         let flags = self.flags();
-        let pair = self.pair() & 0xfcfe == 0;
+        let pair = self.pair() & 0xfefc == 0;
         if (flags & 0xffff_ffff_f0f0_f0f0 == 0) & pair {
             return true;
         }

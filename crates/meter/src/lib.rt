@@ -7,7 +7,7 @@ use crate::told::nothing_told;
 use crate::told::round_told;
 use crate::told::run_told;
 use am9517::Controller;
-use round::round;
+use service::round;
 use service::run;
 
 mod told;

@@ -1,9 +1,9 @@
 // What the operations tell, as numbers.
 use am9517::Answer;
-use round::RoundAnswer;
-use round::Rounded;
 use service::Ran;
 use service::Reason;
+use service::RoundAnswer;
+use service::Rounded;
 use service::RunAnswer;
 ghost use Prim.Native.Nat.{_≤_};
 
@@ -79,10 +79,10 @@ pub(crate) fn run_told(r: Ran) -> Told {
     let answer = r.answer;
     Told {
         number: run_number(answer),
-        transfers: r.transfers,
-        used: r.used,
-        written: r.written,
-        states: r.states,
+        transfers: r.counts.transfers,
+        used: r.counts.used,
+        written: r.counts.written,
+        states: r.counts.states,
     }
 }
 
@@ -91,10 +91,10 @@ pub(crate) fn round_told(r: Rounded) -> Told {
     let services = r.services;
     Told {
         number: round_number(answer) + begun_of(services),
-        transfers: r.transfers,
-        used: r.used,
-        written: r.written,
-        states: r.states,
+        transfers: r.totals.transfers,
+        used: r.totals.used,
+        written: r.totals.written,
+        states: r.totals.states,
     }
 }
 

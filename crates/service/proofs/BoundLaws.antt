@@ -1,49 +1,27 @@
--- How many transfers are made: the least of two bounds, and the transfer that ends a service.
+-- How many transfers are made: the transfer that ends a service, and what the device's bytes and its room last for.
 -- Assumes nothing.
-use Prim.Native.Nat.{ℕ, _+_, _≤_, _<_}
-use mathlib.Core.Path.{_≡_, refl, sym, _∙_}
-use mathlib.Core.Bool.{Bool, true, false}
-use mathlib.Core.List.{List}
+use Prim.Native.Nat.{ℕ, _+_, _-_, _≤_, _<_}
+use mathlib.Core.Path.{_≡_, refl, sym, ap, _∙_}
+use mathlib.Core.Bool.{Bool, true, false, not, _&&_, _||_}
+use mathlib.Core.List.{List, _++_}
 use native.Mathlib.Omega.{arith}
-use lib.Dec.{eqb, ltb}
-use lib.ListN.{length}
-use borrow.Author.Tests.{ltb-true, ltb-false, eqb-true, eqb-false, ne-eqb}
+use lib.Dec.{eqb, leb}
+use lib.ListN.{length, take, drop, take-append-drop}
+use borrow.Rule.Slice.PartMut.{putMid}
+use borrow.Author.Tests.{eqb-true, eqb-false, ne-eqb, le-leb, lt-leb}
 use Rattle.words.specs.Choice.{when}
-use Rattle.am9517.specs.Modes.{typeOf}
+use Rattle.words.specs.Steps.{steps}
+use Rattle.words.specs.Spans.{least, spread}
+use Rattle.am9517.specs.Modes.{transferBits, isWrite, isRead, decrement, isDemand, isSingle, isCascade}
 use Rattle.am9517.specs.declared.Channel.{Channel}
+use Rattle.service.specs.declared.Reason.{Reason}
+use Rattle.service.specs.declared.Reason.the-variants.{Ended}
 use Rattle.service.specs.Transfer.{writes, reads}
-use Rattle.service.specs.Closed.{least, untilEnd, stockOf}
+use Rattle.service.specs.Legs.{untilEnd, stockOf, span, halt, spanOf, along, loaded}
 use Rattle.service.specs.Needs.{Stocked}
-use Rattle.words.proofs.ChoiceLaws.{when-both, when-each, never}
-
-pub least-left : (a b : ℕ) → least a b ≤ a
-unfolding least
-least-left a b = when-each (λ (x : ℕ). x ≤ a) (ltb a b) (λ e. omega arith) (λ e. ltb-false _ _ e)
-
-pub least-right : (a b : ℕ) → least a b ≤ b
-unfolding least
-least-right a b = when-each (λ (x : ℕ). x ≤ b) (ltb a b) (λ e. omega (arith, ltb-true a b e)) (λ e. omega arith)
-
--- what is below the left is the right
-pub least-below : (a b : ℕ) → least a b < a → least a b ≡ b
-unfolding least
-least-below a b = when-each (λ (x : ℕ). x < a → x ≡ b) (ltb a b) (λ e h. absurd (omega arith)) (λ e h. refl)
-
--- the left where it is at most the right
-pub least-first : (a b : ℕ) → a ≤ b → least a b ≡ a
-unfolding least
-least-first a b h = when-each (λ (x : ℕ). x ≡ a) (ltb a b) (λ e. refl) (λ e. omega (arith, ltb-false a b e))
-
-pub least-both : (P : ℕ → Type 0) (a b : ℕ) → P a → P b → P (least a b)
-unfolding least
-least-both P a b h g = when-both P (ltb a b) h g
-
-pub least-some : (a b : ℕ) → 0 < a → 0 < b → 0 < least a b
-least-some a b h g = least-both (λ (x : ℕ). 0 < x) a b h g
-
--- it is one of the two
-least-either : (a b : ℕ) → (least a b ≡ a → ⊥) → (least a b ≡ b → ⊥) → ⊥
-least-either a b h g = least-both (λ (x : ℕ). (x ≡ a → ⊥) → (x ≡ b → ⊥) → ⊥) a b (λ p q. p refl) (λ p q. q refl) h g
+use Rattle.words.proofs.ChoiceLaws.{when-each, when-hit, when-miss, never}
+use Rattle.words.proofs.PartLaws.{tail-all, put-tail}
+use Rattle.words.proofs.BoundLaws.{least-left, least-right, least-both, least-either}
 
 -- The transfer that ends a service: where it can stand, and why it ends it.
 pub record Until (once : Bool) (count eop n : ℕ) : Type 0 where
@@ -75,7 +53,10 @@ until once count eop =
 
 -- a read is no write
 pub read-not-write : (ch : Channel) → reads ch ≡ true → writes ch ≡ false
-read-not-write ch e = ne-eqb _ _ (λ x. eqb-false 2 1 refl (sym (eqb-true (typeOf (ch .mode)) 2 e) ∙ x))
+read-not-write ch e = ne-eqb _ _ (λ x. eqb-false 2 1 refl (sym (eqb-true (transferBits (ch .mode)) 2 e) ∙ x))
+
+pub write-not-read : (mode : ℕ) → isWrite mode ≡ true → isRead mode ≡ false
+write-not-read mode e = ne-eqb _ _ (λ x. eqb-false 1 2 refl (sym (eqb-true (transferBits mode) 1 e) ∙ x))
 
 -- What the device's bytes and its room last for.
 pub stock-bytes : (ch : Channel) (bytes space : ℕ) → writes ch ≡ true → stockOf ch bytes space ≡ bytes
@@ -103,3 +84,39 @@ stocked ch m d r limit n size most h =
 
 pub until-most : (once : Bool) (count eop n : ℕ) → count < 65536 → n ≤ untilEnd once count eop → n ≤ 65536
 until-most once count eop n h l = omega (arith, until once count eop .most)
+
+-- A leg that is neither dropped nor cascade goes to its end, or stops before it.
+pub record Goes (demand cascade active : Bool) : Type 0 where
+  pub line : (demand || cascade) && not active ≡ false
+  pub mode : cascade ≡ false
+
+pub goes-active : (demand cascade active : Bool) → not active ≡ false → cascade ≡ false → Goes demand cascade active
+goes-active demand cascade active a k = record { line = rw (a, k) (and-false demand); mode = k }
+  where
+    and-false : (b : Bool) → (b || false) && false ≡ false
+    and-false true = refl
+    and-false false = refl
+
+pub goes-other : (demand cascade active : Bool) → demand || cascade ≡ false → Goes demand cascade active
+goes-other true cascade active e = never e
+goes-other false cascade active e = record { line = rw e refl; mode = e }
+
+module _ (ch : Channel) (active : Bool) (bytes space limit eop stock far most : ℕ) (es : stock ≡ stockOf ch bytes space) (ef : far ≡ least limit stock)
+    (em : most ≡ untilEnd (isSingle (ch .mode)) (ch .count) eop) (goes : Goes (isDemand (ch .mode)) (isCascade (ch .mode)) active) where
+  pub span-ends : most ≤ far → span most Ended ≡ spanOf ch active bytes space limit eop
+  unfolding spanOf when
+  span-ends h = let t : leb most far ≡ true = le-leb _ _ h in rw (← es, ← ef, ← em, goes .line, goes .mode, t) refl
+
+  pub span-halts : (why : Reason) → why ≡ halt limit stock → far < most → span far why ≡ spanOf ch active bytes space limit eop
+  unfolding spanOf when
+  span-halts why ew h = let t : leb most far ≡ false = lt-leb _ _ h in rw (← es, ← ef, ← em, goes .line, goes .mode, t, ew) refl
+
+-- The room behind a place: kept, or filled and put back.
+module _ (ch : Channel) (m r : List ℕ) (w n : ℕ) where
+  pub room-kept : reads ch ≡ false → r ≡ take w r ++ loaded ch m (drop w r) n
+  room-kept e = sym (take-append-drop w r) ∙ ap (λ (l : List ℕ). take w r ++ l) (sym (when-miss _ _ _ e))
+
+  pub room-filled : (l : List ℕ) → reads ch ≡ true → l ≡ spread (λ (j : ℕ). j) (steps 16 (decrement (ch .mode)) (ch .address)) m (take (length r - w) (drop w r)) n
+      → putMid w (length r - w) r l ≡ take w r ++ loaded ch m (drop w r) n
+  unfolding along
+  room-filled l e h = put-tail w r l ∙ ap (λ (k : List ℕ). take w r ++ k) ((rw (tail-all w r) at h) ∙ sym (when-hit _ _ _ e))

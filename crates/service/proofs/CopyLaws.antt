@@ -1,4 +1,4 @@
--- Many transfers at once of memory-to-memory: one transfer more is one step of the rules, and the run is one trip.
+-- Many transfers at once of memory-to-memory: one transfer more is one step of the rules, and what ends or stops it.
 -- Assumes nothing.
 use Prim.Native.Nat.{ℕ, zero, suc, _+_, _-_, _*_, _≤_, _<_}
 use mathlib.Core.Path.{_≡_, refl, sym, ap, _∙_}
@@ -13,23 +13,27 @@ use lib.Seq.{getD-set-same, getD-set-other, set-set, set-comm}
 use borrow.Author.Tests.{eq-eqb, ne-eqb, eqb-true, eqb-false}
 use Rattle.words.specs.Choice.{when}
 use Rattle.words.specs.Grounds.{first}
-use Rattle.words.specs.Steps.{step}
+use Rattle.words.specs.Steps.{step, steps}
 use Rattle.words.specs.Bits.{withBit}
+use Rattle.words.specs.Spans.{carried}
 use Rattle.am9517.specs.State.{channel, withChannel, make, but, field, put, ended, blank, Request, Temporary}
 use Rattle.am9517.specs.Modes.{addressHold, decrement}
 use Rattle.am9517.specs.declared.Channel.{Channel}
 use Rattle.am9517.specs.declared.Controller.{Controller}
 use Rattle.service.specs.declared.Reason.the-variants.{Ended, Limit}
-use Rattle.service.specs.World.{World, startOf, withController, stop, memoryToMemory}
+use Rattle.service.specs.declared.copying.Route.{Route}
+use Rattle.service.specs.Counts.{counts, plus}
+use Rattle.service.specs.World.{World, world, startOf, withController, stop, memoryToMemory}
 use Rattle.service.specs.Stops.{stops}
-use Rattle.service.specs.Ends.{runner, reachesTc, finished, afterTcOrEop, single}
+use Rattle.service.specs.Ends.{counting, reachesTc, finished, afterTcOrEop, single}
 use Rattle.service.specs.Transfer.{withCurrent, stepped}
-use Rattle.service.specs.Copy.{copied}
+use Rattle.service.specs.Copy.{sourceNext, copied}
 use Rattle.service.specs.Run.{transferred, runOf}
-use Rattle.service.specs.Closed.{along, onward, carried, sourceAlong, copiedOn, copiedBytes, copiedAll, reachedCopying, untilEnd}
+use Rattle.service.specs.Legs.{along, onward, untilEnd}
+use Rattle.service.specs.CopyLegs.{sourceOn, carriedBy, routeIn, copiedOn, copiedAll, reachedCopying}
 use Rattle.words.proofs.ChoiceLaws.{when-both, when-each, when-hit, never, not-false}
-use Rattle.service.proofs.AddressLaws.{held-none, held-next}
-use Rattle.service.proofs.SpreadLaws.{carried-more}
+use Rattle.words.proofs.StepLaws.{steps-next, steps-none}
+use Rattle.words.proofs.SpreadLaws.{carried-more}
 use Rattle.service.proofs.BoundLaws.{Until, until}
 use Rattle.service.proofs.RunLaws.{Free, Gives, run-stop, transferred-copied}
 use Rattle.service.proofs.WayLaws.{Way, way-on, way-end, neither-left, neither-right}
@@ -47,19 +51,23 @@ abbrev copiedWith : World → Channel → Channel → World
 copiedWith w from to =
     let c = w .controller in
     let byte = getD (w .memory) (from .address) 0 in
-    record {
-      controller = withChannel (withChannel (put c Temporary byte) 0 (withCurrent from (when (addressHold c) (from .address) (step 16 (decrement (from .mode)) (from .address))) (from .count))) 1 (stepped to);
-      memory = set (w .memory) (to .address) byte;
-      room = w .room;
-      transfers = w .transfers + 1;
-      used = w .used;
-      written = w .written;
-      states = w .states + 8;
-    }
+    world (withChannel (withChannel (put c Temporary byte) 0 (sourceNext (addressHold (c .command)) from)) 1 (stepped to)) (set (w .memory) (to .address) byte) (w .room)
+    (plus (w .counts) (counts 1 0 0 8))
 
 copied-by : (w : World) (from to : Channel) → channel (w .controller) 0 ≡ from → channel (w .controller) 1 ≡ to → copied w ≡ copiedWith w from to
 unfolding copied
 copied-by w from to e g = ap (λ (x : Channel). copiedWith w x (channel (w .controller) 1)) e ∙ ap (copiedWith w from) g
+
+-- the source, one transfer on
+source-next : (hold : Bool) (from : Channel) (n : ℕ) → sourceNext hold (sourceOn hold from n) ≡ sourceOn hold from (n + 1)
+unfolding along when
+source-next true from n = refl
+source-next false from n = ap (λ (a : ℕ). withCurrent from a (from .count)) (steps-next 16 (decrement (from .mode)) (from .address) n)
+
+source-none : (hold : Bool) (from : Channel) → from .address < 65536 → sourceOn hold from 0 ≡ from
+unfolding along when
+source-none true from below = refl
+source-none false from below = ap (λ (a : ℕ). withCurrent from a (from .count)) (steps-none 16 (decrement (from .mode)) (from .address) below)
 
 module _ (c : Controller) (m r : List ℕ) where
   abbrev from : Channel
@@ -70,7 +78,10 @@ module _ (c : Controller) (m r : List ℕ) where
 
   -- channel 0 after n transfers
   abbrev sent : ℕ → Channel
-  sent n = withCurrent from (sourceAlong c n) (from .count)
+  sent n = sourceOn (addressHold (c .command)) from n
+
+  abbrev bytes : ℕ → List ℕ
+  bytes n = carriedBy (routeIn c) m n
 
   -- both channels after n transfers
   abbrev both : ℕ → List Channel
@@ -78,11 +89,10 @@ module _ (c : Controller) (m r : List ℕ) where
 
   -- the byte that the transfer after n moves
   abbrev moving : ℕ → ℕ
-  moving n = getD (copiedBytes c m n) (sourceAlong c n) 0
+  moving n = getD (bytes n) (sent n .address) 0
 
   abbrev shape : List Channel → ℕ → List ℕ → ℕ → ℕ → World
-  shape chs byte bytes n states =
-      record { controller = make chs (but (field c) Temporary byte); memory = bytes; room = r; transfers = n; used = 0; written = 0; states = states }
+  shape chs byte l n states = world (make chs (but (field c) Temporary byte)) l r (counts n 0 0 states)
 
   sent-there : (n byte : ℕ) → (to .count ≡ 0 → ⊥) → channel (copiedOn c byte n) 0 ≡ sent n
   sent-there n byte nz =
@@ -93,45 +103,46 @@ module _ (c : Controller) (m r : List ℕ) where
   pub got-there : (n byte : ℕ) → (to .count ≡ 0 → ⊥) → channel (copiedOn c byte n) 1 ≡ onward to n
   got-there n byte nz = getD-set-same (set (c .channels) 0 (sent n)) 1 (onward to n) blank (simp length-set (inside-of (c .channels) 1 nz))
 
-  source-next : (n : ℕ) → from .address < 65536 → when (addressHold c) (sourceAlong c n) (step 16 (decrement (from .mode)) (sourceAlong c n)) ≡ sourceAlong c (n + 1)
-  unfolding sourceAlong along
-  source-next n below = held-next (decrement (from .mode)) (from .address) below (addressHold c) n _ refl
+  bytes-more : (n : ℕ) → set (bytes n) (along to n) (moving n) ≡ bytes (n + 1)
+  unfolding carriedBy along
+  bytes-more n =
+      carried-more (steps 16 (decrement (to .mode)) (to .address)) (λ (j : ℕ). sent j .address) m n (steps 16 (decrement (to .mode)) (to .address) n) (sent n .address) refl refl (carried (steps 16 (decrement (to .mode)) (to .address)) (λ (j : ℕ). sent j .address) m n) refl
 
-  source-none : from .address < 65536 → sourceAlong c 0 ≡ from .address
-  unfolding sourceAlong along
-  source-none below = sym (held-none (decrement (from .mode)) (from .address) below (addressHold c))
-
-  one-more : (j : ℕ) → (to .count ≡ 0 → ⊥) → from .address < 65536 → copied (copiedAll c m r (j + 1)) ≡ copiedAll c m r (j + 1 + 1)
+  one-more : (j : ℕ) → (to .count ≡ 0 → ⊥) → copied (copiedAll c m r (j + 1)) ≡ copiedAll c m r (j + 1 + 1)
   unfolding copiedAll onward
-  one-more j nz below =
+  one-more j nz =
       let n = j + 1 in
       let byte = moving (n - 1) in
       let back : j + 1 + 1 - 1 ≡ j + 1 = omega arith in
       let states : (j + 1) * 8 + 8 ≡ (j + 1 + 1) * 8 = omega arith in
-      let x : Channel = withCurrent from (when (addressHold c) (sourceAlong c n) (step 16 (decrement (from .mode)) (sourceAlong c n))) (from .count) in
-      let chs : set (set (set (set (c .channels) 0 (sent n)) 1 (onward to n)) 0 x) 1 (stepped (onward to n)) ≡ both (n + 1) =
-      two-again (c .channels) (sent n) (onward to n) x (stepped (onward to n))
-      ∙ ap (λ (a : ℕ). set (set (c .channels) 0 (withCurrent from a (from .count))) 1 (stepped (onward to n))) (source-next n below)
+      let chs : set (set (set (set (c .channels) 0 (sent n)) 1 (onward to n)) 0 (sourceNext (addressHold (c .command)) (sent n))) 1 (stepped (onward to n)) ≡ both (n + 1) =
+      two-again (c .channels) (sent n) (onward to n) (sourceNext (addressHold (c .command)) (sent n)) (stepped (onward to n))
+      ∙ ap (λ (x : Channel). set (set (c .channels) 0 x) 1 (stepped (onward to n))) (source-next (addressHold (c .command)) from n)
       ∙ ap (λ (y : Channel). set (set (c .channels) 0 (sent (n + 1))) 1 y) (stepped-onward to n) in
-      let bytes : set (copiedBytes c m n) (along to n) (moving n) ≡ copiedBytes c m (n + 1) = carried-more (along to) (sourceAlong c) m n (along to n) (sourceAlong c n) refl refl (copiedBytes c m n) refl in
       copied-by (copiedAll c m r n) (sent n) (onward to n) (sent-there n byte nz) (got-there n byte nz)
-      ∙ ap (λ (l : List Channel). shape l (moving n) (set (copiedBytes c m n) (along to n) (moving n)) (n + 1) (n * 8 + 8)) chs
-      ∙ ap (λ (l : List ℕ). shape (both (n + 1)) (moving n) l (n + 1) (n * 8 + 8)) bytes
-      ∙ ap (λ (k : ℕ). shape (both (n + 1)) (moving k) (copiedBytes c m (n + 1)) (n + 1) (n * 8 + 8)) (sym back)
-      ∙ ap (λ (k : ℕ). shape (both (n + 1)) (moving (n + 1 - 1)) (copiedBytes c m (n + 1)) (n + 1) k) states
+      ∙ ap (λ (l : List Channel). shape l (moving n) (set (bytes n) (along to n) (moving n)) (n + 1) (n * 8 + 8)) chs
+      ∙ ap (λ (l : List ℕ). shape (both (n + 1)) (moving n) l (n + 1) (n * 8 + 8)) (bytes-more n)
+      ∙ ap (λ (k : ℕ). shape (both (n + 1)) (moving k) (bytes (n + 1)) (n + 1) (n * 8 + 8)) (sym back)
+      ∙ ap (λ (k : ℕ). shape (both (n + 1)) (moving (n + 1 - 1)) (bytes (n + 1)) (n + 1) k) states
+
+  bytes-none : bytes 0 ≡ m
+  unfolding carriedBy carried
+  bytes-none = refl
 
   first-copy : from .address < 65536 → to .address < 65536 → copied (startOf c m r) ≡ copiedAll c m r 1
-  unfolding copiedAll carried
+  unfolding copiedAll
   first-copy below goal =
-      let start : when (addressHold c) (from .address) (step 16 (decrement (from .mode)) (from .address)) ≡ sourceAlong c 1 = rw (← source-none below) (source-next 0 below) in
-      let chs : set (set (c .channels) 0 (withCurrent from (when (addressHold c) (from .address) (step 16 (decrement (from .mode)) (from .address))) (from .count))) 1 (stepped to) ≡ both 1 =
-      ap (λ (a : ℕ). set (set (c .channels) 0 (withCurrent from a (from .count))) 1 (stepped to)) start ∙ ap (λ (y : Channel). set (set (c .channels) 0 (sent 1)) 1 y) (stepped-first to) in
-      let byte : getD m (from .address) 0 ≡ moving 0 = ap (λ (a : ℕ). getD m a 0) (sym (source-none below)) in
+      let start : sourceNext (addressHold (c .command)) from ≡ sent 1 = ap (sourceNext (addressHold (c .command))) (sym (source-none (addressHold (c .command)) from below)) ∙ source-next (addressHold (c .command)) from 0 in
+      let chs : set (set (c .channels) 0 (sourceNext (addressHold (c .command)) from)) 1 (stepped to) ≡ both 1 =
+      ap (λ (x : Channel). set (set (c .channels) 0 x) 1 (stepped to)) start ∙ ap (λ (y : Channel). set (set (c .channels) 0 (sent 1)) 1 y) (stepped-first to) in
+      let byte : getD m (from .address) 0 ≡ moving 0 = ap (λ (x : Channel). getD m (x .address) 0) (sym (source-none (addressHold (c .command)) from below)) ∙ ap (λ (l : List ℕ). getD l (sent 0 .address) 0) (sym bytes-none) in
       let place : to .address ≡ along to 0 = sym (along-none to goal) in
       copied-by (startOf c m r) from to refl refl
       ∙ ap (λ (l : List Channel). shape l (getD m (from .address) 0) (set m (to .address) (getD m (from .address) 0)) 1 8) chs
       ∙ ap (λ (b : ℕ). shape (both 1) b (set m (to .address) b) 1 8) byte
       ∙ ap (λ (a : ℕ). shape (both 1) (moving 0) (set m a (moving 0)) 1 8) place
+      ∙ ap (λ (l : List ℕ). shape (both 1) (moving 0) (set l (along to 0) (moving 0)) 1 8) (sym bytes-none)
+      ∙ ap (λ (l : List ℕ). shape (both 1) (moving 0) l 1 8) (bytes-more 0)
 
   pub copying-none : reachedCopying c m r 0 ≡ startOf c m r
   unfolding reachedCopying when
@@ -148,9 +159,9 @@ module _ (c : Controller) (m r : List ℕ) where
   unfolding reachedCopying copiedAll memoryToMemory
   memoryToMemory-after n = when-both (λ (w : World). memoryToMemory (w .controller) ≡ memoryToMemory c) (eqb n 0) refl refl
 
-  transfers-after : (n : ℕ) → reachedCopying c m r n .transfers ≡ n
+  transfers-after : (n : ℕ) → reachedCopying c m r n .counts .transfers ≡ n
   unfolding reachedCopying copiedAll
-  transfers-after n = when-each (λ (w : World). w .transfers ≡ n) (eqb n 0) (λ e. sym (eqb-true _ _ e)) (λ e. refl)
+  transfers-after n = when-each (λ (w : World). w .counts .transfers ≡ n) (eqb n 0) (λ e. sym (eqb-true _ _ e)) (λ e. refl)
 
   module _ (ic : memoryToMemory c ≡ true) (below : from .address < 65536) (goal : to .address < 65536) (small : to .count < 65536) where
     there : (n : ℕ) → (to .count ≡ 0 → ⊥) → n ≤ to .count → channel (copiedAll c m r n .controller) 1 .count ≡ to .count - n
@@ -168,19 +179,19 @@ module _ (c : Controller) (m r : List ℕ) where
         go zero h = rw (copying-none, copying-some 1 (omega arith)) (first-copy below goal)
         go (suc j) h =
             let e = add-one j in
-            rw (copying-some (suc j) (omega arith), copying-some (suc j + 1) (omega arith), ← e) (one-more j (λ z. omega arith) below)
+            rw (copying-some (suc j) (omega arith), copying-some (suc j + 1) (omega arith), ← e) (one-more j (λ z. omega arith))
 
     tc-after : (n : ℕ) → n ≤ to .count → reachesTc (here n .controller) ≡ eqb (to .count - n) 0
-    unfolding runner when
+    unfolding counting when
     tc-after n h = simp (memoryToMemory-after n ∙ ic) (ap (λ (k : ℕ). eqb k 0) (count-after n h))
 
     single-after : (n : ℕ) → single (here n .controller) ≡ false
     unfolding single
     single-after n = simp (memoryToMemory-after n ∙ ic)
 
-    afterTcOrEop-after : (n : ℕ) (tc : Bool) → afterTcOrEop (here n .controller) tc ≡ finished (put (here n .controller) Request (withBit (here n .controller .request) 0 false)) 1 tc
+    afterTcOrEop-after : (n : ℕ) (tc met : Bool) → afterTcOrEop (here n .controller) tc met ≡ finished (put (here n .controller) Request (withBit (here n .controller .request) 0 false)) 1 tc met
     unfolding afterTcOrEop when
-    afterTcOrEop-after n tc = simp (memoryToMemory-after n ∙ ic)
+    afterTcOrEop-after n tc met = simp (memoryToMemory-after n ∙ ic)
 
     module _ (limit eop : ℕ) (d : List ℕ) where
       way : Way d here false (to .count)
@@ -196,14 +207,14 @@ module _ (c : Controller) (m r : List ℕ) where
 
       pub copy-ends : (n : ℕ) → n ≡ untilEnd false (to .count) eop → n ≤ limit
           → runOf limit eop d (startOf c m r)
-          ≡ stop (withController (here n) (finished (put (here n .controller) Request (withBit (here n .controller .request) 0 false)) 1 (eqb n (to .count + 1)))) Ended
+          ≡ stop (withController (here n) (finished (put (here n .controller) Request (withBit (here n .controller .request) 0 false)) 1 (eqb n (to .count + 1)) (eqb n eop))) Ended
       copy-ends n e h =
           let u : Until false (to .count) eop n = rw e (until false (to .count) eop) in
           let met : eqb n (to .count + 1) || eqb n eop ≡ true =
           not-false _ (λ z. never (sym (u .last (eqb-false _ _ (neither-left (eqb n (to .count + 1)) (eqb n eop) z)) (eqb-false _ _ (neither-right (eqb n (to .count + 1)) (eqb n eop) z))))) in
           ap (λ (w : World). runOf limit eop d w) (sym copying-none)
           ∙ way-end limit eop d here false (to .count) way n u h (λ k l. free-after k (omega arith))
-          ∙ ap (λ (x : Controller). stop (withController (here n) x) Ended) (when-hit _ _ (ended (here n .controller)) met ∙ afterTcOrEop-after n (eqb n (to .count + 1)))
+          ∙ ap (λ (x : Controller). stop (withController (here n) x) Ended) (when-hit _ _ (ended (here n .controller)) met ∙ afterTcOrEop-after n (eqb n (to .count + 1)) (eqb n eop))
 
       pub copy-halts : limit < untilEnd false (to .count) eop → runOf limit eop d (startOf c m r) ≡ stop (here limit) Limit
       copy-halts h =

@@ -11,17 +11,18 @@ use borrow.Author.Tests.{leb-false}
 use Rattle.words.specs.Choice.{when}
 use Rattle.words.specs.Grounds.{Ground, first}
 use Rattle.words.specs.Bits.{withBit}
-use Rattle.am9517.specs.State.{channel, withChannel, put, ended, Tc, Request, Mask}
-use Rattle.am9517.specs.Modes.{compressed, autoinitialize, serviceOf}
+use Rattle.am9517.specs.State.{channel, withChannel, put, ended, Request}
+use Rattle.am9517.specs.Modes.{compressed, addressHold, autoinitialize, isCascade}
 use Rattle.am9517.specs.declared.Controller.{Controller}
+use Rattle.service.specs.declared.Counts.{Counts}
 use Rattle.service.specs.declared.Reason.{Reason}
 use Rattle.service.specs.declared.Reason.the-variants.{Ended, Dropped, Cascade, Limit, Short}
 use Rattle.service.specs.World.{World, withController, memoryToMemory, servingChannel, Stop, stop}
 use Rattle.service.specs.Stops.{dropped, short, stops}
-use Rattle.service.specs.States.{statesWithoutS1, needsS1, cost}
+use Rattle.service.specs.States.{pace, copyPace, needsS1, cost}
 use Rattle.service.specs.Transfer.{writes, reads, moved}
-use Rattle.service.specs.Copy.{source, copied}
-use Rattle.service.specs.Ends.{restored, finished, afterTcOrEop, single, reachesTc, ends}
+use Rattle.service.specs.Copy.{sourceNext, copied}
+use Rattle.service.specs.Ends.{bitsOf, withBits, bitsAfter, channelAfter, finished, afterTcOrEop, single, reachesTc, ends}
 use Rattle.service.specs.Run.{transferred, runOf}
 use Rattle.words.proofs.BitLaws.{four-kept}
 use Rattle.words.proofs.ChoiceLaws.{when-both, when-each, when-le, never}
@@ -42,15 +43,12 @@ cascade-not e = let z : _≡_ {A = ℕ} 0 1 = cc in omega arith
 short-not : Short ≡ Ended → ⊥
 short-not e = let z : _≡_ {A = ℕ} 0 1 = cc in omega arith
 
-dropped-not : Dropped ≡ Ended → ⊥
-dropped-not e = let z : _≡_ {A = ℕ} 0 1 = cc in omega arith
-
 -- Whatever holds of worlds along a run and comes through each way to stop holds where it stops.
 module _ (P : ℕ → World → Type 0) (Q : Stop → Type 0) (eop : ℕ) (d : List ℕ)
     (step : (left : ℕ) (w : World) → P (suc left) w → Supplied w d → P left (transferred w d))
     (halts : (left : ℕ) (w : World) (e : Reason) → (e ≡ Ended → ⊥) → P left w → Q (stop w e))
     (drops : (left : ℕ) (w : World) → P left w → Q (stop (withController w (ended (w .controller))) Dropped))
-    (meets : (left : ℕ) (w : World) (tc : Bool) → P left w → Q (stop (withController w (afterTcOrEop (w .controller) tc)) Ended))
+    (meets : (left : ℕ) (w : World) (tc eop : Bool) → P left w → Q (stop (withController w (afterTcOrEop (w .controller) tc eop)) Ended))
     (parts : (left : ℕ) (w : World) → P left w → Q (stop (withController w (ended (w .controller))) Ended)) where
   through-stops : (left : ℕ) (w : World) (x : Stop) → P left w → (Supplied w d → Q x) → Q (first (stops w d left) x)
   unfolding stops first
@@ -58,13 +56,13 @@ module _ (P : ℕ → World → Type 0) (Q : Stop → Type 0) (eop : ℕ) (d : L
       when-each (λ (gs : List (Ground Stop)). Q (first gs x)) (memoryToMemory (w .controller))
       (λ ic. when-both Q (eqb left 0) (halts left w Limit limit-not p) (g (λ nc. never (sym ic ∙ nc))))
       (λ nc. when-both Q (dropped (w .controller)) (drops left w p)
-      (when-both Q (eqb (serviceOf (servingChannel (w .controller) .mode)) 3) (halts left w Cascade cascade-not p)
+      (when-both Q (isCascade (servingChannel (w .controller) .mode)) (halts left w Cascade cascade-not p)
       (when-both Q (eqb left 0) (halts left w Limit limit-not p) (when-each Q (short w d) (λ s. halts left w Short short-not p) (λ s. g (λ z. s))))))
 
   through-ends : (left : ℕ) (c : Controller) (w : World) (x : Stop) → P left w → Q x → Q (first (ends c w eop) x)
   unfolding first
   through-ends left c w x p g =
-      when-both Q (reachesTc c || eqb (w .transfers) eop) (meets left w (reachesTc c) p) (when-both Q (single c) (parts left w p) g)
+      when-both Q (reachesTc c || eqb (w .counts .transfers) eop) (meets left w (reachesTc c) (eqb (w .counts .transfers) eop) p) (when-both Q (single c) (parts left w p) g)
 
   pub run-ind : (left : ℕ) (w : World) → P left w → Q (runOf left eop d w)
   unfolding runOf
@@ -76,15 +74,15 @@ module _ (P : ℕ → World → Type 0) (Q : Stop → Type 0) (eop : ℕ) (d : L
 pub record Counted (memory room bytes most : ℕ) (w : World) : Type 0 where
   pub memory-length : length (w .memory) ≡ memory
   pub room-length : length (w .room) ≡ room
-  pub used : w .used ≤ bytes
-  pub written : w .written ≤ room
-  pub transfers : w .transfers ≤ most
-  pub states : w .states ≤ 8 * w .transfers
+  pub used : w .counts .used ≤ bytes
+  pub written : w .counts .written ≤ room
+  pub transfers : w .counts .transfers ≤ most
+  pub states : w .counts .states ≤ w .counts .transfers * copyPace
 
-cost-most : (c : Controller) (a : ℕ) → cost c a ≤ 8
-unfolding cost statesWithoutS1
+cost-most : (c : Controller) (a : ℕ) → cost c a ≤ copyPace
+unfolding cost pace
 cost-most c a =
-    let p : when (compressed c) 2 3 ≤ 3 = when-both (λ (x : ℕ). x ≤ 3) (compressed c) (omega arith) (omega arith) in
+    let p : when (compressed (c .command)) 2 3 ≤ 3 = when-both (λ (x : ℕ). x ≤ 3) (compressed (c .command)) (omega arith) (omega arith) in
     omega (arith, when-le (needsS1 c a) 1)
 
 -- one more by a test stays within a bound where the test leaves room
@@ -110,13 +108,13 @@ module _ (M R : ℕ) (d : List ℕ) where
   moved-counted most left w p s =
       let c = p .0 in
       let ch = servingChannel (w .controller) in
-      let bytes = supplied-bytes (writes ch) (w .used) (length d) _ s in
-      let space = supplied-bytes (reads ch) (w .written) (length (w .room)) false (or-false _ (neither-right (writes ch && leb (length d) (w .used)) _ s)) in
+      let bytes = supplied-bytes (writes ch) (w .counts .used) (length d) _ s in
+      let space = supplied-bytes (reads ch) (w .counts .written) (length (w .room)) false (or-false _ (neither-right (writes ch && leb (length d) (w .counts .used)) _ s)) in
       record {
         memory-length = when-both (λ (l : List ℕ). length l ≡ M) (writes ch) (simp length-set (c .memory-length)) (c .memory-length);
         room-length = when-both (λ (l : List ℕ). length l ≡ R) (reads ch) (simp length-set (c .room-length)) (c .room-length);
-        used = one-within (writes ch) (w .used) (length d) (c .used) bytes;
-        written = one-within (reads ch) (w .written) R (c .written) (λ e. omega (arith, space e, c .room-length));
+        used = one-within (writes ch) (w .counts .used) (length d) (c .used) bytes;
+        written = one-within (reads ch) (w .counts .written) R (c .written) (λ e. omega (arith, space e, c .room-length));
         transfers = omega (arith, c .transfers, p .1);
         states = omega (arith, c .states, cost-most (w .controller) (ch .address));
       }
@@ -128,8 +126,8 @@ module _ (M R : ℕ) (d : List ℕ) where
       record {
         memory-length = simp length-set (c .memory-length);
         room-length = c .room-length;
-        used = c .used;
-        written = c .written;
+        used = omega (arith, c .used);
+        written = omega (arith, c .written);
         transfers = omega (arith, c .transfers, p .1);
         states = omega (arith, c .states);
       }
@@ -147,7 +145,7 @@ module _ (M R : ℕ) (d : List ℕ) where
   pub run-counted : (most eop : ℕ) (w : World) → Counted M R (length d) 0 w → Counted M R (length d) most (runOf most eop d w .world)
   run-counted most eop w p =
       run-ind (Within most) (λ (s : Stop). Counted M R (length d) most (s .world)) eop d (step-counted most)
-      (λ left x e n q. counted-on most left x (x .controller) (q .0)) (λ left x q. counted-on most left x _ (q .0)) (λ left x tc q. counted-on most left x _ (q .0)) (λ left x q. counted-on most left x _ (q .0))
+      (λ left x e n q. counted-on most left x (x .controller) (q .0)) (λ left x q. counted-on most left x _ (q .0)) (λ left x tc e q. counted-on most left x _ (q .0)) (λ left x q. counted-on most left x _ (q .0))
       most w (record { memory-length = p .memory-length; room-length = p .room-length; used = p .used; written = p .written; transfers = omega (arith, p .transfers); states = p .states }, omega arith)
 
 -- A run keeps the ranges and the lowest channel, and leaves no service open where it says "ended".
@@ -178,7 +176,7 @@ copied-sound l w p =
     let c = w .controller in
     let r = p .ranges in
     record {
-      ranges = kept-open c r _ (record { mode = λ k. modes-kept (set (c .channels) 0 (source c)) 1 k _ (sym (modes-kept (c .channels) 0 1 (source c) refl)) ∙ modes-kept (c .channels) 0 k (source c) refl; pins = refl; flipFlop = refl; lowest = refl; tc = r .fields .tc; request = r .fields .request; mask = r .fields .mask }) (p .busy) (r .fields .latchFull) (r .latch) (r .fields .serving);
+      ranges = kept-open c r _ (record { mode = λ k. modes-kept (set (c .channels) 0 (sourceNext (addressHold (c .command)) (channel c 0))) 1 k _ (sym (modes-kept (c .channels) 0 1 (sourceNext (addressHold (c .command)) (channel c 0)) refl)) ∙ modes-kept (c .channels) 0 k (sourceNext (addressHold (c .command)) (channel c 0)) refl; pins = refl; flipFlop = refl; lowest = refl; tc = r .fields .tc; request = r .fields .request; mask = r .fields .mask }) (p .busy) (r .fields .latchFull) (r .latch) (r .fields .serving);
       busy = p .busy;
       lowest = p .lowest;
     }
@@ -187,35 +185,41 @@ transferred-sound : (l : ℕ) (w : World) (d : List ℕ) → Sound l (w .control
 unfolding transferred
 transferred-sound l w d p = when-both (λ (x : World). Sound l (x .controller)) (memoryToMemory (w .controller)) (copied-sound l w p) (moved-sound l w d p)
 
-finished-ranges : (c : Controller) (n : ℕ) (tc : Bool) → n < 4 → Ranges c → Ranges (finished c n tc)
+finished-ranges : (c : Controller) (n : ℕ) (tc eop : Bool) → n < 4 → Ranges c → Ranges (finished c n tc eop)
 unfolding finished
-finished-ranges c n tc h r =
-    let t : when tc (withBit (c .tc) n true) (c .tc) ≤ 15 = when-both (λ (x : ℕ). x ≤ 15) tc (four-kept (c .tc) n true (r .fields .tc) h) (r .fields .tc) in
-    let q : withBit (c .request) n false ≤ 15 = four-kept (c .request) n false (r .fields .request) h in
-    let f : Controller = put (put c Tc (when tc (withBit (c .tc) n true) (c .tc))) Request (withBit (c .request) n false) in
-    when-both (λ (x : Controller). Ranges (ended x)) (autoinitialize (channel c n .mode))
-    (kept-ended c r (withChannel f n (restored (channel c n))) (record { mode = λ k. modes-kept (c .channels) n k _ refl; pins = refl; flipFlop = refl; lowest = refl; tc = t; request = q; mask = r .fields .mask }))
-    (kept-ended c r (put f Mask (withBit (c .mask) n true)) (record { mode = λ k. refl; pins = refl; flipFlop = refl; lowest = refl; tc = t; request = q; mask = four-kept (c .mask) n true (r .fields .mask) h }))
+finished-ranges c n tc eop h r =
+    let ch = channel c n in
+    let f = r .fields in
+    kept-ended c r (withBits (withChannel c n (channelAfter ch)) (bitsAfter n (ch .mode) (bitsOf c) tc eop))
+    (record {
+      mode = λ k. modes-kept (c .channels) n k _ refl;
+      pins = refl;
+      flipFlop = refl;
+      lowest = refl;
+      tc = when-both (λ (x : ℕ). x ≤ 15) tc (four-kept (c .tc) n true (f .tc) h) (f .tc);
+      request = four-kept (c .request) n false (f .request) h;
+      mask = when-both (λ (x : ℕ). x ≤ 15) (autoinitialize (ch .mode)) (f .mask) (four-kept (c .mask) n true (f .mask) h);
+    })
 
-finished-lowest : (c : Controller) (n : ℕ) (tc : Bool) → finished c n tc .lowest ≡ c .lowest
+finished-lowest : (c : Controller) (n : ℕ) (tc eop : Bool) → finished c n tc eop .lowest ≡ c .lowest
 unfolding finished
-finished-lowest c n tc = when-both (λ (x : Controller). ended x .lowest ≡ c .lowest) (autoinitialize (channel c n .mode)) refl refl
+finished-lowest c n tc eop = refl
 
-finished-idle : (c : Controller) (n : ℕ) (tc : Bool) → finished c n tc .«in_service» ≡ 0
+finished-idle : (c : Controller) (n : ℕ) (tc eop : Bool) → finished c n tc eop .«in_service» ≡ 0
 unfolding finished
-finished-idle c n tc = refl
+finished-idle c n tc eop = refl
 
-afterTcOrEop-left : (l : ℕ) (w : World) (tc : Bool) → Sound l (w .controller) → Left l (stop (withController w (afterTcOrEop (w .controller) tc)) Ended)
+afterTcOrEop-left : (l : ℕ) (w : World) (tc eop : Bool) → Sound l (w .controller) → Left l (stop (withController w (afterTcOrEop (w .controller) tc eop)) Ended)
 unfolding afterTcOrEop
-afterTcOrEop-left l w tc p =
+afterTcOrEop-left l w tc eop p =
     let c = w .controller in
     let r = p .ranges in
     let q = put c Request (withBit (c .request) 0 false) in
     let f = r .fields in
     let rq : Ranges q = kept-open c r q (record { mode = λ k. refl; pins = refl; flipFlop = refl; lowest = refl; tc = f .tc; request = four-kept (c .request) 0 false (f .request) (omega arith); mask = f .mask }) (p .busy) (f .latchFull) (r .latch) (f .serving) in
     when-both (λ (x : Controller). Left l (stop (withController w x) Ended)) (memoryToMemory c)
-    (record { ranges = finished-ranges q 1 tc (omega arith) rq; idle = λ e. finished-idle q 1 tc; lowest = finished-lowest q 1 tc ∙ p .lowest })
-    (record { ranges = finished-ranges c (c .serving) tc (omega (arith, f .serving)) r; idle = λ e. finished-idle c (c .serving) tc; lowest = finished-lowest c (c .serving) tc ∙ p .lowest })
+    (record { ranges = finished-ranges q 1 tc eop (omega arith) rq; idle = λ e. finished-idle q 1 tc eop; lowest = finished-lowest q 1 tc eop ∙ p .lowest })
+    (record { ranges = finished-ranges c (c .serving) tc eop (omega (arith, f .serving)) r; idle = λ e. finished-idle c (c .serving) tc eop; lowest = finished-lowest c (c .serving) tc eop ∙ p .lowest })
 
 ended-left : (l : ℕ) (w : World) (e : Reason) → Sound l (w .controller) → Left l (stop (withController w (ended (w .controller))) e)
 ended-left l w e p =
@@ -225,7 +229,7 @@ pub run-left : (left eop : ℕ) (d : List ℕ) (w : World) → Ranges (w .contro
 run-left left eop d w r b =
     let l = w .controller .lowest in
     run-ind (λ (n : ℕ) (x : World). Sound l (x .controller)) (Left l) eop d step
-    (λ n x e not p. record { ranges = p .ranges; idle = λ z. absurd (not z); lowest = p .lowest }) (λ n x p. ended-left l x Dropped p) (λ n x tc p. afterTcOrEop-left l x tc p) (λ n x p. ended-left l x Ended p)
+    (λ n x e not p. record { ranges = p .ranges; idle = λ z. absurd (not z); lowest = p .lowest }) (λ n x p. ended-left l x Dropped p) (λ n x tc e p. afterTcOrEop-left l x tc e p) (λ n x p. ended-left l x Ended p)
     left w (record { ranges = r; busy = b; lowest = refl })
   where
     step : (n : ℕ) (x : World) → Sound (w .controller .lowest) (x .controller) → Supplied x d → Sound (w .controller .lowest) (transferred x d .controller)

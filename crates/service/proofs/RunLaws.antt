@@ -9,7 +9,7 @@ use lib.Dec.{eqb}
 use Rattle.words.specs.Choice.{when}
 use Rattle.words.specs.Grounds.{Ground, first}
 use Rattle.am9517.specs.State.{ended}
-use Rattle.am9517.specs.Modes.{serviceOf}
+use Rattle.am9517.specs.Modes.{isCascade}
 use Rattle.service.specs.declared.Reason.the-variants.{Dropped, Cascade, Limit, Short}
 use Rattle.service.specs.World.{World, Stop, stop, withController, servingChannel, memoryToMemory}
 use Rattle.service.specs.Stops.{dropped, short, stops}
@@ -58,11 +58,11 @@ module _ (w : World) (d : List ℕ) (left : ℕ) (nc : memoryToMemory (w .contro
   stops-dropped h x = simp (nc, h)
 
   module _ (nd : dropped (w .controller) ≡ false) where
-    pub stops-cascade : eqb (serviceOf (servingChannel (w .controller) .mode)) 3 ≡ true → Gives (stops w d left) (stop w Cascade)
+    pub stops-cascade : isCascade (servingChannel (w .controller) .mode) ≡ true → Gives (stops w d left) (stop w Cascade)
     unfolding stops first when
     stops-cascade h x = simp (nc, nd, h)
 
-    module _ (ns : eqb (serviceOf (servingChannel (w .controller) .mode)) 3 ≡ false) where
+    module _ (ns : isCascade (servingChannel (w .controller) .mode) ≡ false) where
       pub stops-limit : eqb left 0 ≡ true → Gives (stops w d left) (stop w Limit)
       unfolding stops first when
       stops-limit h x = simp (nc, nd, ns, h)

@@ -10,7 +10,7 @@ use lib.ListN.{length}
 use borrow.Author.Tests.{eq-eqb, ne-eqb, eqb-true, lt-leb, le-leb, leb-true, leb-false}
 use Rattle.words.specs.Choice.{when}
 use Rattle.am9517.specs.State.{channel, ended}
-use Rattle.am9517.specs.Modes.{serviceOf}
+use Rattle.am9517.specs.Modes.{isSingle, isCascade}
 use Rattle.am9517.specs.declared.Channel.{Channel}
 use Rattle.am9517.specs.declared.Controller.{Controller}
 use Rattle.service.specs.declared.Reason.{Reason}
@@ -18,11 +18,13 @@ use Rattle.service.specs.declared.Reason.the-variants.{Ended, Dropped, C
 use Rattle.service.specs.World.{World, startOf, withController, memoryToMemory, servingChannel, stop}
 use Rattle.service.specs.Stops.{dropped, short, stops}
 use Rattle.service.specs.Transfer.{writes, reads}
-use Rattle.service.specs.Ends.{runner, reachesTc, finished, afterTcOrEop, single}
+use Rattle.service.specs.Ends.{counting, reachesTc, finished, afterTcOrEop, single}
 use Rattle.service.specs.Run.{runOf}
-use Rattle.service.specs.Closed.{least, untilEnd, stockOf, reached, travelled, closing}
+use Rattle.words.specs.Spans.{least}
+use Rattle.service.specs.Legs.{untilEnd, stockOf, halt, reached, travelled}
 use Rattle.words.proofs.ChoiceLaws.{when-both, when-each}
-use Rattle.service.proofs.BoundLaws.{Until, until, read-not-write, stock-bytes, stock-space, stock-any, least-left, least-right, least-below, least-first}
+use Rattle.service.proofs.BoundLaws.{Until, until, read-not-write, stock-bytes, stock-space, stock-any}
+use Rattle.words.proofs.BoundLaws.{least-left, least-right, least-below, least-first}
 use Rattle.service.proofs.RunLaws.{Free, run-stop, stops-dropped, stops-cascade, stops-limit, stops-short, stops-none}
 use Rattle.service.proofs.WayLaws.{Way, way-on, way-end}
 use Rattle.service.proofs.TravelLaws.{Standing, standing, reached-none, reached-more}
@@ -32,8 +34,8 @@ module _ (c : Controller) (m d r : List ℕ) (limit eop : ℕ) (nc : memoryToMem
   pub run-dropped : dropped c ≡ true → runOf limit eop d (startOf c m r) ≡ stop (startOf (ended c) m r) Dropped
   run-dropped h = run-stop eop d (startOf c m r) limit _ (stops-dropped (startOf c m r) d limit nc h)
 
-  pub run-cascade : dropped c ≡ false → serviceOf (servingChannel c .mode) ≡ 3 → runOf limit eop d (startOf c m r) ≡ stop (startOf c m r) Cascade
-  run-cascade h s = run-stop eop d (startOf c m r) limit _ (stops-cascade (startOf c m r) d limit nc h (eq-eqb _ _ s))
+  pub run-cascade : dropped c ≡ false → isCascade (servingChannel c .mode) ≡ true → runOf limit eop d (startOf c m r) ≡ stop (startOf c m r) Cascade
+  run-cascade h s = run-stop eop d (startOf c m r) limit _ (stops-cascade (startOf c m r) d limit nc h s)
 
 -- A device that is short after n transfers of a kind.
 abbrev shortBy : Bool → Bool → ℕ → ℕ → ℕ → Bool
@@ -54,29 +56,29 @@ short-read : (n bytes space : ℕ) → space ≤ n → shortBy false true n byte
 unfolding when
 short-read n bytes space h = simp (le-leb _ _ h)
 
-runner-is : (c : Controller) → memoryToMemory c ≡ false → runner c ≡ c .serving
-unfolding runner when
-runner-is c h = simp h
+counting-is : (c : Controller) → memoryToMemory c ≡ false → counting c ≡ c .serving
+unfolding counting when
+counting-is c h = simp h
 
 tc-is : (c : Controller) → memoryToMemory c ≡ false → reachesTc c ≡ eqb (servingChannel c .count) 0
-tc-is c h = ap (λ (n : ℕ). eqb (channel c n .count) 0) (runner-is c h)
+tc-is c h = ap (λ (n : ℕ). eqb (channel c n .count) 0) (counting-is c h)
 
-afterTcOrEop-is : (c : Controller) (tc : Bool) → memoryToMemory c ≡ false → afterTcOrEop c tc ≡ finished c (c .serving) tc
+afterTcOrEop-is : (c : Controller) (tc eop : Bool) → memoryToMemory c ≡ false → afterTcOrEop c tc eop ≡ finished c (c .serving) tc eop
 unfolding afterTcOrEop when
-afterTcOrEop-is c tc h = simp h
+afterTcOrEop-is c tc eop h = simp h
 
-single-is : (c : Controller) → memoryToMemory c ≡ false → single c ≡ eqb (serviceOf (servingChannel c .mode)) 1
+single-is : (c : Controller) → memoryToMemory c ≡ false → single c ≡ isSingle (servingChannel c .mode)
 unfolding single
 single-is c h = simp h
 
 -- The trip.
-module _ (c : Controller) (m d r : List ℕ) (limit eop : ℕ) (nc : memoryToMemory c ≡ false) (nd : dropped c ≡ false) (ns : eqb (serviceOf (servingChannel c .mode)) 3 ≡ false)
+module _ (c : Controller) (m d r : List ℕ) (limit eop : ℕ) (nc : memoryToMemory c ≡ false) (nd : dropped c ≡ false) (ns : isCascade (servingChannel c .mode) ≡ false)
     (below : servingChannel c .address < 65536) (small : servingChannel c .count < 65536) where
   abbrev ch : Channel
   ch = servingChannel c
 
   abbrev once : Bool
-  once = eqb (serviceOf (ch .mode)) 1
+  once = isSingle (ch .mode)
 
   abbrev here : ℕ → World
   here n = reached c m d r n
@@ -98,8 +100,8 @@ module _ (c : Controller) (m d r : List ℕ) (limit eop : ℕ) (nc : memoryToMem
   unfolding short
   short-is n h = let s = stands n h in simp (s .mode, s .used, s .written, s .room)
 
-  cascade-is : (n : ℕ) → n ≤ ch .count → eqb (serviceOf (servingChannel (here n .controller) .mode)) 3 ≡ false
-  cascade-is n h = ap (λ (x : ℕ). eqb (serviceOf x) 3) (stands n h .mode) ∙ ns
+  cascade-is : (n : ℕ) → n ≤ ch .count → isCascade (servingChannel (here n .controller) .mode) ≡ false
+  cascade-is n h = ap (λ (x : ℕ). isCascade x) (stands n h .mode) ∙ ns
 
   memoryToMemory-after : (n : ℕ) → memoryToMemory (here n .controller) ≡ memoryToMemory c
   unfolding reached travelled memoryToMemory
@@ -109,9 +111,9 @@ module _ (c : Controller) (m d r : List ℕ) (limit eop : ℕ) (nc : memoryToMem
   unfolding reached travelled
   serving-after n = when-both (λ (w : World). w .controller .serving ≡ c .serving) (eqb n 0) refl refl
 
-  transfers-after : (n : ℕ) → here n .transfers ≡ n
+  transfers-after : (n : ℕ) → here n .counts .transfers ≡ n
   unfolding reached travelled
-  transfers-after n = when-each (λ (w : World). w .transfers ≡ n) (eqb n 0) (λ e. sym (eqb-true _ _ e)) (λ e. refl)
+  transfers-after n = when-each (λ (w : World). w .counts .transfers ≡ n) (eqb n 0) (λ e. sym (eqb-true _ _ e)) (λ e. refl)
 
   -- nothing stops the transfer after n
   free-after : (n : ℕ) → n ≤ ch .count → Allowed (n + 1) → Free (stops (here n) d (limit - n))
@@ -125,7 +127,7 @@ module _ (c : Controller) (m d r : List ℕ) (limit eop : ℕ) (nc : memoryToMem
   tc-after n h = let s = stands n h in tc-is (here n .controller) (s .memoryToMemory ∙ nc) ∙ ap (λ (x : ℕ). eqb x 0) (s .count)
 
   single-after : (n : ℕ) → n ≤ ch .count → single (here n .controller) ≡ once
-  single-after n h = let s = stands n h in single-is (here n .controller) (s .memoryToMemory ∙ nc) ∙ ap (λ (x : ℕ). eqb (serviceOf x) 1) (s .mode)
+  single-after n h = let s = stands n h in single-is (here n .controller) (s .memoryToMemory ∙ nc) ∙ ap (λ (x : ℕ). isSingle x) (s .mode)
 
   way : Way d here once (ch .count)
   way = record { more = λ n h. reached-more c m d r n h small below nc; tc = tc-after; lone = single-after; made = transfers-after }
@@ -148,13 +150,13 @@ module _ (c : Controller) (m d r : List ℕ) (limit eop : ℕ) (nc : memoryToMem
   -- The service ends with the n-th transfer.
   pub run-ends : (n : ℕ) → n ≡ untilEnd once (ch .count) eop → n ≤ least limit (stockOf ch (length d) (length r))
       → runOf limit eop d (startOf c m r)
-      ≡ stop (withController (here n) (closing (here n .controller) (here n .controller .serving) (eqb n (ch .count + 1)) (eqb n eop))) Ended
+      ≡ stop (withController (here n) (when (eqb n (ch .count + 1) || eqb n eop) (finished (here n .controller) (here n .controller .serving) (eqb n (ch .count + 1)) (eqb n eop)) (ended (here n .controller)))) Ended
   run-ends n e h =
       let u : Until once (ch .count) eop n = rw e (until once (ch .count) eop) in
       let a = allowed-by n h in
       ap (λ (w : World). runOf limit eop d w) (sym (reached-none c m d r))
       ∙ way-end limit eop d here once (ch .count) way n u (a .most) (unstopped n (u .most) a)
-      ∙ ap (λ (x : Controller). stop (withController (here n) (when (eqb n (ch .count + 1) || eqb n eop) x (ended (here n .controller)))) Ended) (afterTcOrEop-is (here n .controller) (eqb n (ch .count + 1)) (memoryToMemory-after n ∙ nc))
+      ∙ ap (λ (x : Controller). stop (withController (here n) (when (eqb n (ch .count + 1) || eqb n eop) x (ended (here n .controller)))) Ended) (afterTcOrEop-is (here n .controller) (eqb n (ch .count + 1)) (eqb n eop) (memoryToMemory-after n ∙ nc))
 
   -- a device whose stock is used up is short
   short-after : (n : ℕ) → n ≤ ch .count → n ≡ stockOf ch (length d) (length r) → short (here n) d ≡ true
@@ -167,7 +169,8 @@ module _ (c : Controller) (m d r : List ℕ) (limit eop : ℕ) (nc : memoryToMem
 
   -- The service stops after n transfers, before its end.
   pub run-halts : (n : ℕ) → n ≡ least limit (stockOf ch (length d) (length r)) → n < untilEnd once (ch .count) eop
-      → runOf limit eop d (startOf c m r) ≡ stop (here n) (when (leb limit (stockOf ch (length d) (length r))) Limit Short)
+      → runOf limit eop d (startOf c m r) ≡ stop (here n) (halt limit (stockOf ch (length d) (length r)))
+  unfolding halt
   run-halts n e h =
       let stock = stockOf ch (length d) (length r) in
       let u = until once (ch .count) eop in

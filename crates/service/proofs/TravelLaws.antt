@@ -6,7 +6,7 @@ use mathlib.Core.Bool.{Bool, true, false}
 use mathlib.Core.List.{List, [], _∷_}
 use native.Mathlib.Omega.{arith}
 use native.Mathlib.Numerals.{add-one}
-use native.Mathlib.Nat.{suc-mul, zero-add}
+use native.Mathlib.Nat.{suc-mul, zero-add, mul-le-mul-left}
 use lib.ListN.{length, getD, set}
 use lib.Seq.{getD-set-same, set-set}
 use borrow.Author.Tests.{ne-eqb}
@@ -17,16 +17,18 @@ use Rattle.am9517.specs.Modes.{decrement}
 use Rattle.am9517.specs.Serving.{active}
 use Rattle.am9517.specs.declared.Channel.{Channel}
 use Rattle.am9517.specs.declared.Controller.{Controller}
-use Rattle.service.specs.World.{World, startOf, memoryToMemory, servingChannel}
+use Rattle.service.specs.World.{World, world, startOf, memoryToMemory, servingChannel}
 use Rattle.service.specs.Stops.{dropped}
-use Rattle.service.specs.States.{statesWithoutS1, needsS1, latched, cost}
+use Rattle.service.specs.States.{pace, needsS1, latched, cost}
 use Rattle.service.specs.Transfer.{withCurrent, stepped, writes, reads, moved}
 use Rattle.service.specs.Run.{transferred}
-use Rattle.service.specs.Closed.{along, onward, entered, spread, movedOn, statesOf, travelled, reached}
-use Rattle.words.proofs.ChoiceLaws.{when-both, when-same, never}
+use Rattle.words.specs.Spans.{spread}
+use Rattle.service.specs.Counts.{counts, plus}
+use Rattle.service.specs.Legs.{along, onward, entered, statesOf, movedOn, travelled, reached}
+use Rattle.words.proofs.ChoiceLaws.{when-both, when-same, when-le, never}
 use Rattle.words.proofs.StepLaws.{steps-none, steps-one, steps-next}
-use Rattle.service.proofs.AddressLaws.{entered-more, entered-none}
-use Rattle.service.proofs.SpreadLaws.{spread-more, length-spread}
+use Rattle.words.proofs.SpreadLaws.{spread-more, length-spread}
+use Rattle.service.proofs.PageLaws.{entered-more, entered-none, entered-most}
 use Rattle.service.proofs.BoundLaws.{read-not-write}
 use Rattle.service.proofs.RunLaws.{transferred-moved}
 
@@ -74,15 +76,10 @@ dropped-by c x p k n e = rw e (simp (p, k, n))
 abbrev movedWith : World → List ℕ → Channel → World
 movedWith w d ch =
     let c = w .controller in
-    record {
-      controller = latched (withChannel c (c .serving) (stepped ch)) (ch .address);
-      memory = when (writes ch) (set (w .memory) (ch .address) (getD d (w .used) 0)) (w .memory);
-      room = when (reads ch) (set (w .room) (w .written) (getD (w .memory) (ch .address) 0)) (w .room);
-      transfers = w .transfers + 1;
-      used = w .used + when (writes ch) 1 0;
-      written = w .written + when (reads ch) 1 0;
-      states = w .states + cost c (ch .address);
-    }
+    world (latched (withChannel c (c .serving) (stepped ch)) (ch .address))
+    (when (writes ch) (set (w .memory) (ch .address) (getD d (w .counts .used) 0)) (w .memory))
+    (when (reads ch) (set (w .room) (w .counts .written) (getD (w .memory) (ch .address) 0)) (w .room))
+    (plus (w .counts) (counts 1 (when (writes ch) 1 0) (when (reads ch) 1 0) (cost c (ch .address))))
 
 moved-by : (w : World) (d : List ℕ) (ch : Channel) → servingChannel (w .controller) ≡ ch → moved w d ≡ movedWith w d ch
 unfolding moved
@@ -94,7 +91,7 @@ unfolding when
 counts-on true j = refl
 counts-on false j = refl
 
-next-mul : (n p : ℕ) → (n + 1) * p ≡ n * p + p
+pub next-mul : (n p : ℕ) → (n + 1) * p ≡ n * p + p
 next-mul n p = ap (λ (k : ℕ). k * p) (add-one n) ∙ suc-mul n p
 
 module _ (c : Controller) (m d r : List ℕ) where
@@ -119,11 +116,14 @@ module _ (c : Controller) (m d r : List ℕ) where
   down = decrement (ch .mode)
 
   -- the states of one transfer more
-  states-on : (j : ℕ) → statesOf c (j + 1) + cost (movedOn c (j + 1)) (along ch (j + 1)) ≡ statesOf c (j + 1 + 1)
-  unfolding statesOf cost statesWithoutS1 needsS1 along
+  abbrev states : ℕ → ℕ
+  states n = statesOf ch (pace (c .command)) (needsS1 c (ch .address)) n
+
+  states-on : (j : ℕ) → states (j + 1) + cost (movedOn c (j + 1)) (along ch (j + 1)) ≡ states (j + 1 + 1)
+  unfolding statesOf cost needsS1 along
   states-on j =
       let a = ch .address in
-      let p = statesWithoutS1 c in
+      let p = pace (c .command) in
       let back : j + 1 - 1 ≡ j = omega arith in
       let back' : j + 1 + 1 - 1 ≡ j + 1 = omega arith in
       let more = entered-more down a j in
@@ -140,7 +140,7 @@ module _ (c : Controller) (m d r : List ℕ) where
       ∙ simp (chs, back, memory-on (writes ch) (j + 1), room-on (reads ch) (writes ch) (j + 1) (read-not-write ch), counts-on (writes ch) (j + 1), counts-on (reads ch) (j + 1), states-on j)
 
   -- the first transfer
-  states-first : cost c (ch .address) ≡ statesOf c 1
+  states-first : cost c (ch .address) ≡ states 1
   unfolding statesOf cost
   states-first =
       let none : entered down (ch .address) (1 - 1) ≡ 0 = entered-none down (ch .address) in
@@ -159,9 +159,9 @@ module _ (c : Controller) (m d r : List ℕ) where
     pub serving : w .controller .serving ≡ c .serving
     pub mode : servingChannel (w .controller) .mode ≡ ch .mode
     pub count : servingChannel (w .controller) .count ≡ ch .count - n
-    pub transfers : w .transfers ≡ n
-    pub used : w .used ≡ when (writes ch) n 0
-    pub written : w .written ≡ when (reads ch) n 0
+    pub transfers : w .counts .transfers ≡ n
+    pub used : w .counts .used ≡ when (writes ch) n 0
+    pub written : w .counts .written ≡ when (reads ch) n 0
     pub room : length (w .room) ≡ length r
 
   standing-start : Standing (startOf c m r) 0
@@ -221,10 +221,22 @@ module _ (c : Controller) (m d r : List ℕ) where
           rw (reached-some (suc j) (omega arith), reached-some (suc j + 1) (omega arith), ← e) (one-more j (λ z. omega arith))
 
 -- the byte of one transfer alone
-pub one-stored : (ch : Channel) (d m : List ℕ) (n : ℕ) → n ≡ 1 → ch .address < 65536 → writes ch ≡ true → set m (ch .address) (getD d 0 0) ≡ when (writes ch) (spread (along ch) (λ (j : ℕ). j) d m n) m
-unfolding when spread
-one-stored ch d m n one h w = rw (one, w) (ap (λ (a : ℕ). set m a (getD d 0 0)) (sym (along-none ch h)))
+module _ (down : Bool) (a : ℕ) (src dst : List ℕ) (n : ℕ) (one : n ≡ 1) (below : a < 65536) where
+  pub one-stored : set dst a (getD src 0 0) ≡ spread (steps 16 down a) (λ (j : ℕ). j) src dst n
+  unfolding spread
+  one-stored = rw one (ap (λ (x : ℕ). set dst x (getD src 0 0)) (sym (steps-none 16 down a below)))
 
-pub one-loaded : (ch : Channel) (m r : List ℕ) (n : ℕ) → n ≡ 1 → ch .address < 65536 → reads ch ≡ true → set r 0 (getD m (ch .address) 0) ≡ when (reads ch) (spread (λ (j : ℕ). j) (along ch) m r n) r
-unfolding when spread
-one-loaded ch m r n one h w = rw (one, w) (ap (λ (a : ℕ). set r 0 (getD m a 0)) (sym (along-none ch h)))
+  pub one-loaded : set dst 0 (getD src a 0) ≡ spread (λ (j : ℕ). j) (steps 16 down a) src dst n
+  unfolding spread
+  one-loaded = rw one (ap (λ (x : ℕ). set dst 0 (getD src x 0)) (sym (steps-none 16 down a below)))
+
+-- the states of a leg fit a machine word
+pub states-most : (ch : Channel) (p : ℕ) (first : Bool) (n : ℕ) → n ≤ 65536 → p ≤ 8 → statesOf ch p first n ≤ 65536 * 9
+unfolding statesOf
+states-most ch p first n h q =
+    let each : n * p ≤ n * 8 = mul-le-mul-left n q in
+    omega (arith, each, when-le first 1, entered-most (decrement (ch .mode)) (ch .address) (n - 1) (omega arith))
+
+pub pace-most : (command : ℕ) → pace command ≤ 8
+unfolding pace
+pace-most command = when-both (λ (x : ℕ). x ≤ 8) _ (omega arith) (omega arith)

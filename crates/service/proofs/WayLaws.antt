@@ -38,14 +38,14 @@ neither-right false b e = e
 
 -- Which end a transfer meets.
 module _ (c : Controller) (w : World) (eop : ℕ) where
-  ends-none : reachesTc c ≡ false → eqb (w .transfers) eop ≡ false → single c ≡ false → Free (ends c w eop)
+  ends-none : reachesTc c ≡ false → eqb (w .counts .transfers) eop ≡ false → single c ≡ false → Free (ends c w eop)
   unfolding first when
   ends-none t e s x = simp (t, e, s)
 
-  ends-met : (tc e : Bool) → reachesTc c ≡ tc → eqb (w .transfers) eop ≡ e → (tc || e ≡ false → single c ≡ true)
-      → Gives (ends c w eop) (stop (withController w (when (tc || e) (afterTcOrEop (w .controller) tc) (ended (w .controller)))) Ended)
+  ends-met : (tc e : Bool) → reachesTc c ≡ tc → eqb (w .counts .transfers) eop ≡ e → (tc || e ≡ false → single c ≡ true)
+      → Gives (ends c w eop) (stop (withController w (when (tc || e) (afterTcOrEop (w .controller) tc e) (ended (w .controller)))) Ended)
   unfolding first when
-  ends-met true e t g s x = simp t
+  ends-met true e t g s x = simp (t, g)
   ends-met false true t g s x = simp (t, g)
   ends-met false false t g s x = simp (t, g, s refl)
 
@@ -54,7 +54,7 @@ pub record Way (d : List ℕ) (here : ℕ → World) (once : Bool) (count : ℕ)
   pub more : (n : ℕ) → n ≤ count → transferred (here n) d ≡ here (n + 1)
   pub tc : (n : ℕ) → n ≤ count → reachesTc (here n .controller) ≡ eqb (count - n) 0
   pub lone : (n : ℕ) → n ≤ count → single (here n .controller) ≡ once
-  pub made : (n : ℕ) → here n .transfers ≡ n
+  pub made : (n : ℕ) → here n .counts .transfers ≡ n
 
 module _ (limit eop : ℕ) (d : List ℕ) (here : ℕ → World) (once : Bool) (count : ℕ) (way : Way d here once count) (n : ℕ) (u : Until once count eop n) where
   -- nothing stops the first j transfers
@@ -70,8 +70,8 @@ module _ (limit eop : ℕ) (d : List ℕ) (here : ℕ → World) (once : Bool) (
       let next : transferred (here j) d ≡ here (suc j) = way .more j within ∙ ap here e in
       let left-some : count - j ≡ 0 → ⊥ = λ z. omega (arith, u .most) in
       let many : once ≡ false = not-true _ (λ o. omega (arith, u .lone o)) in
-      let made : transferred (here j) d .transfers ≡ suc j = ap (λ (w : World). w .transfers) next ∙ way .made (suc j) in
-      let quiet : eqb (transferred (here j) d .transfers) eop ≡ false = ap (λ (x : ℕ). eqb x eop) made ∙ ne-eqb _ _ (u .quiet (suc j) (omega arith) h) in
+      let made : transferred (here j) d .counts .transfers ≡ suc j = ap (λ (w : World). w .counts .transfers) next ∙ way .made (suc j) in
+      let quiet : eqb (transferred (here j) d .counts .transfers) eop ≡ false = ap (λ (x : ℕ). eqb x eop) made ∙ ne-eqb _ _ (u .quiet (suc j) (omega arith) h) in
       way-on j (omega arith) (omega arith) (λ k g. f k (omega arith))
       ∙ run-on eop d (here j) (limit - j) (omega arith) (f j (omega arith))
       (ends-none (here j .controller) (transferred (here j) d) eop (way .tc j within ∙ ne-eqb _ _ left-some) quiet (way .lone j within ∙ many))
@@ -81,7 +81,7 @@ module _ (limit eop : ℕ) (d : List ℕ) (here : ℕ → World) (once : Bool) (
   -- The n-th transfer ends the service.
   pub way-end : n ≤ limit → Unstopped n
       → runOf limit eop d (here 0)
-      ≡ stop (withController (here n) (when (eqb n (count + 1) || eqb n eop) (afterTcOrEop (here n .controller) (eqb n (count + 1))) (ended (here n .controller)))) Ended
+      ≡ stop (withController (here n) (when (eqb n (count + 1) || eqb n eop) (afterTcOrEop (here n .controller) (eqb n (count + 1)) (eqb n eop)) (ended (here n .controller)))) Ended
   way-end l f =
       let j = n - 1 in
       let is : j + 1 ≡ n = omega (arith, u .some) in
@@ -89,7 +89,7 @@ module _ (limit eop : ℕ) (d : List ℕ) (here : ℕ → World) (once : Bool) (
       let within : j ≤ count = omega (arith, u .most) in
       let next : transferred (here j) d ≡ here n = way .more j within ∙ ap here is in
       let tc : reachesTc (here j .controller) ≡ eqb n (count + 1) = way .tc j within ∙ same-test (count - j) 0 n (count + 1) (λ z. omega arith) (λ z. omega arith) in
-      let met : eqb (here n .transfers) eop ≡ eqb n eop = ap (λ (x : ℕ). eqb x eop) (way .made n) in
+      let met : eqb (here n .counts .transfers) eop ≡ eqb n eop = ap (λ (x : ℕ). eqb x eop) (way .made n) in
       let lone : eqb n (count + 1) || eqb n eop ≡ false → single (here j .controller) ≡ true =
       λ z. way .lone j within ∙ u .last (eqb-false _ _ (neither-left (eqb n (count + 1)) (eqb n eop) z)) (eqb-false _ _ (neither-right (eqb n (count + 1)) (eqb n eop) z)) in
       way-on j before (omega arith) (λ k g. f k (omega arith))

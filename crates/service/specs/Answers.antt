@@ -12,6 +12,7 @@ use Rattle.am9517.specs.declared.Controller.{Controller}
 use Rattle.service.specs.declared.RunAnswer.{RunAnswer}
 use Rattle.service.specs.declared.RunAnswer.the-variants.{Stopped, Refused}
 use Rattle.service.specs.declared.Ran.{Ran}
+use Rattle.service.specs.Counts.{none}
 use Rattle.service.specs.World.{World, startOf, Stop}
 use Rattle.service.specs.Run.{runOf}
 
@@ -33,12 +34,12 @@ unfoldable pub stopped : Stop → Given
 stopped s =
     let w = s .world in
     given
-    (record { controller = w .controller; answer = Stopped (s .reason); transfers = w .transfers; used = w .used; written = w .written; states = w .states })
+    (record { controller = w .controller; answer = Stopped (s .reason); counts = w .counts })
     (w .memory) (w .room)
 
 -- "Each returns its number only, and state, memory and buffers stay."
 abbrev pub refusedOf : Controller → ℕ → Ran
-refusedOf c n = record { controller = c; answer = Refused n; transfers = 0; used = 0; written = 0; states = 0 }
+refusedOf c n = record { controller = c; answer = Refused n; counts = none }
 
 -- 7 "memory not of 65,536 bytes"; 8 "run with no service open"; "run 1, 7, 8"
 abbrev pub wrongSize : List ℕ → Bool

@@ -1,5 +1,6 @@
 -- "Memory-to-memory": one transfer of it. When a service is one, World `memoryToMemory` says; what stops it, Stops; its end, Ends `afterTcOrEop`.
-use Prim.Native.Nat.{ℕ, _+_}
+use Prim.Native.Nat.{ℕ}
+use mathlib.Core.Bool.{Bool}
 use mathlib.Core.List.{List}
 use lib.ListN.{getD, set}
 use Rattle.words.specs.Choice.{when}
@@ -7,16 +8,14 @@ use Rattle.words.specs.Steps.{step}
 use Rattle.am9517.specs.State.{channel, withChannel, put, Field, Temporary}
 use Rattle.am9517.specs.Modes.{addressHold, decrement}
 use Rattle.am9517.specs.declared.Channel.{Channel}
-use Rattle.am9517.specs.declared.Controller.{Controller}
-use Rattle.service.specs.World.{World}
+use Rattle.service.specs.Counts.{counts, plus}
+use Rattle.service.specs.World.{World, world}
 use Rattle.service.specs.Transfer.{withCurrent, stepped}
-use Rattle.service.specs.States.{copyCost}
+use Rattle.service.specs.States.{copyPace}
 
--- channel 0's address after a transfer: it "stays under command bit 1"; its count isn't touched
-abbrev pub source : Controller → Channel
-source c =
-    let ch = channel c 0 in
-    withCurrent ch (when (addressHold c) (ch .address) (step 16 (decrement (ch .mode)) (ch .address))) (ch .count)
+-- channel 0 after a transfer: its address "stays under command bit 1"; its count isn't touched
+abbrev pub sourceNext : Bool → Channel → Channel
+sourceNext hold ch = withCurrent ch (when hold (ch .address) (step 16 (decrement (ch .mode)) (ch .address))) (ch .count)
 
 -- "byte at channel 0's address to the temporary byte, then to channel 1's address; both step as their mode bit 5 says, but channel 0
 -- stays under command bit 1. Channel 1's count steps .."
@@ -24,12 +23,8 @@ unfoldable pub copied : World → World
 copied w =
     let c = w .controller in
     let byte = getD (w .memory) (channel c 0 .address) 0 in
-    record {
-      controller = withChannel (withChannel (put c Temporary byte) 0 (source c)) 1 (stepped (channel c 1));
-      memory = set (w .memory) (channel c 1 .address) byte;
-      room = w .room;
-      transfers = w .transfers + 1;
-      used = w .used;
-      written = w .written;
-      states = w .states + copyCost;
-    }
+    let sent = withChannel (put c Temporary byte) 0 (sourceNext (addressHold (c .command)) (channel c 0)) in
+    world (withChannel sent 1 (stepped (channel c 1)))
+    (set (w .memory) (channel c 1 .address) byte)
+    (w .room)
+    (plus (w .counts) (counts 1 0 0 copyPace))

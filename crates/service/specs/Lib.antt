@@ -1,4 +1,5 @@
--- Document 01, "A run of one service", in its order.
+-- Document 01, "A run of one service" and "A round", in their order.
+pub mod Counts
 pub mod World
 pub mod Stops
 pub mod Transfer
@@ -7,7 +8,10 @@ pub mod Copy
 pub mod States
 pub mod Run
 pub mod Answers
--- help for laws, for private contracts and for the service that round makes whole: no rule stands there
-pub mod Closed
-pub mod Whole
+pub mod Round
+pub mod RoundAnswers
+-- help for laws and private contracts: no rule stands there
+pub mod Legs
+pub mod CopyLegs
 pub mod Needs
+pub mod RoundLoop

@@ -7,7 +7,7 @@ use lib.ListN.{length}
 use Rattle.words.specs.Choice.{when}
 use Rattle.words.specs.Grounds.{Ground, _if_}
 use Rattle.am9517.specs.State.{ended}
-use Rattle.am9517.specs.Modes.{typeOf, serviceOf}
+use Rattle.am9517.specs.Modes.{isWrite, isRead, isDemand, isCascade}
 use Rattle.am9517.specs.Serving.{active}
 use Rattle.am9517.specs.declared.Controller.{Controller}
 use Rattle.service.specs.declared.Reason.the-variants.{Dropped, Cascade, Limit, Short}
@@ -15,13 +15,13 @@ use Rattle.service.specs.World.{World, withController, memoryToMemory, s
 
 -- the mode is demand or cascade, and the line is inactive
 unfoldable pub dropped : Controller → Bool
-dropped c = (eqb (serviceOf (servingChannel c .mode)) 0 || eqb (serviceOf (servingChannel c .mode)) 3) && not (active c (c .serving))
+dropped c = (isDemand (servingChannel c .mode) || isCascade (servingChannel c .mode)) && not (active c (c .serving))
 
 -- "a write with no device byte left, or a read with no room left"
 unfoldable pub short : World → List ℕ → Bool
 short w d =
-    eqb (typeOf (servingChannel (w .controller) .mode)) 1 && leb (length d) (w .used)
-    || eqb (typeOf (servingChannel (w .controller) .mode)) 2 && leb (length (w .room)) (w .written)
+    isWrite (servingChannel (w .controller) .mode) && leb (length d) (w .counts .used)
+    || isRead (servingChannel (w .controller) .mode) && leb (length (w .room)) (w .counts .written)
 
 -- 1. "demand or cascade with the line inactive: service ends, "dropped""; 2. "cascade: stop, "cascade"; service stays open, nothing
 -- moves"; 3. "limit reached: stop, "limit"; service stays open"; 4. "a write with no device byte left, or a read with no room left:
@@ -31,7 +31,7 @@ stops w d left =
     when (memoryToMemory (w .controller))
     (stop w Limit if eqb left 0 ∷ [])
     (stop (withController w (ended (w .controller))) Dropped if dropped (w .controller)
-    ∷ stop w Cascade if eqb (serviceOf (servingChannel (w .controller) .mode)) 3
+    ∷ stop w Cascade if isCascade (servingChannel (w .controller) .mode)
     ∷ stop w Limit if eqb left 0
     ∷ stop w Short if short w d
     ∷ [])

@@ -1,16 +1,15 @@
 -- "The transfer": bytes, address, count, and what is counted.
-use Prim.Native.Nat.{ℕ, _+_}
+use Prim.Native.Nat.{ℕ}
 use mathlib.Core.Bool.{Bool, true}
 use mathlib.Core.List.{List}
-use lib.Dec.{eqb}
 use lib.ListN.{getD, set}
 use Rattle.words.specs.Choice.{when}
 use Rattle.words.specs.Steps.{step}
 use Rattle.am9517.specs.State.{withChannel}
-use Rattle.am9517.specs.Modes.{typeOf, decrement}
+use Rattle.am9517.specs.Modes.{isWrite, isRead, decrement}
 use Rattle.am9517.specs.declared.Channel.{Channel}
-use Rattle.am9517.specs.declared.Controller.{Controller}
-use Rattle.service.specs.World.{World, servingChannel}
+use Rattle.service.specs.Counts.{counts, plus}
+use Rattle.service.specs.World.{World, world, servingChannel}
 use Rattle.service.specs.States.{cost, latched}
 
 -- the channel at another address and count
@@ -24,10 +23,10 @@ stepped ch = withCurrent ch (step 16 (decrement (ch .mode)) (ch .address)) (step
 
 -- a write, a read
 abbrev pub writes : Channel → Bool
-writes ch = eqb (typeOf (ch .mode)) 1
+writes ch = isWrite (ch .mode)
 
 abbrev pub reads : Channel → Bool
-reads ch = eqb (typeOf (ch .mode)) 2
+reads ch = isRead (ch .mode)
 
 -- "verify moves nothing; write stores the next device byte at the current address;
 -- read puts that memory byte in the next place of the room"; "Room behind the last byte written isn't touched."
@@ -35,12 +34,7 @@ unfoldable pub moved : World → List ℕ → World
 moved w d =
     let c = w .controller in
     let ch = servingChannel c in
-    record {
-      controller = latched (withChannel c (c .serving) (stepped ch)) (ch .address);
-      memory = when (writes ch) (set (w .memory) (ch .address) (getD d (w .used) 0)) (w .memory);
-      room = when (reads ch) (set (w .room) (w .written) (getD (w .memory) (ch .address) 0)) (w .room);
-      transfers = w .transfers + 1;
-      used = w .used + when (writes ch) 1 0;
-      written = w .written + when (reads ch) 1 0;
-      states = w .states + cost c (ch .address);
-    }
+    world (latched (withChannel c (c .serving) (stepped ch)) (ch .address))
+    (when (writes ch) (set (w .memory) (ch .address) (getD d (w .counts .used) 0)) (w .memory))
+    (when (reads ch) (set (w .room) (w .counts .written) (getD (w .memory) (ch .address) 0)) (w .room))
+    (plus (w .counts) (counts 1 (when (writes ch) 1 0) (when (reads ch) 1 0) (cost c (ch .address))))

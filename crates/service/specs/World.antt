@@ -7,29 +7,30 @@ use Rattle.am9517.specs.State.{channel}
 use Rattle.am9517.specs.Modes.{memoryToMemoryBit}
 use Rattle.am9517.specs.declared.Channel.{Channel}
 use Rattle.am9517.specs.declared.Controller.{Controller}
+use Rattle.service.specs.declared.Counts.{Counts}
 use Rattle.service.specs.declared.Reason.{Reason}
+use Rattle.service.specs.Counts.{none}
 
 pub record World : Type 0 where
   pub controller : Controller
   pub memory : List ℕ
   pub room : List ℕ
-  pub transfers : ℕ
-  pub used : ℕ
-  pub written : ℕ
-  pub states : ℕ
+  pub counts : Counts
+
+abbrev pub world : Controller → List ℕ → List ℕ → Counts → World
+world c m r n = record { controller = c; memory = m; room = r; counts = n }
 
 -- where a run begins
 abbrev pub startOf : Controller → List ℕ → List ℕ → World
-startOf c m r = record { controller = c; memory = m; room = r; transfers = 0; used = 0; written = 0; states = 0 }
+startOf c m r = world c m r none
 
 -- the world with another controller
 abbrev pub withController : World → Controller → World
-withController w c =
-    record { controller = c; memory = w .memory; room = w .room; transfers = w .transfers; used = w .used; written = w .written; states = w .states }
+withController w c = world c (w .memory) (w .room) (w .counts)
 
 -- "With command bit 0 set, a service of channel 0 is" memory-to-memory.
 unfoldable pub memoryToMemory : Controller → Bool
-memoryToMemory c = memoryToMemoryBit c && eqb (c .serving) 0
+memoryToMemory c = memoryToMemoryBit (c .command) && eqb (c .serving) 0
 
 -- the serving channel
 abbrev pub servingChannel : Controller → Channel

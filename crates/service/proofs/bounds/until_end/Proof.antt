@@ -1,7 +1,7 @@
+use Rattle.service.specs.Legs.{untilEnd}
+use Rattle.words.specs.Choice.{when}
 use borrow.Author.Tests.{eq-eqb, ne-eqb}
 use borrow.Author.Needs.{needs}
-use Rattle.words.specs.Choice.{when}
-use Rattle.service.specs.Closed.{untilEnd}
 use Rattle.service.proofs.bounds.until_end.Statement.{statement}
 use Rattle.service.proofs.bounds.until_end.Tie as tie
 

@@ -1,56 +1,37 @@
-use Rattle.service.proofs.PieceLaws.{moving-piece}
-use Rattle.service.proofs.PieceLaws.{Moving, moving-on, moving-end}
-use borrow.Author.Needs.{needs}
+use Rattle.service.proofs.CopyLegLaws.{last-moved}
+use Rattle.service.proofs.PieceLaws.{one-carried, route-length}
+use Rattle.service.specs.CopyLegs.{carriedBy, routeOf}
+use lib.ListN.{length}
 use native.Mathlib.Omega.{arith}
-use mathlib.Core.Path.{refl}
+use mathlib.Core.Logic.{⊎-elim}
+use mathlib.Core.Path.{_≡_, ap, _∙_}
+use Prim.Native.Nat.{ℕ}
+use mathlib.Core.List.{List}
+use borrow.Author.Needs.{needs}
 use Rattle.service.proofs.copying.copy_bytes.Statement.{statement}
 use Rattle.service.proofs.copying.copy_bytes.Tie as tie
 
-abbrev Inv-loop : tie.InvT-loop
-Inv-loop memory₀ n here₀ left₀ memory here left = Moving here₀ memory₀ n here memory left
+slice-read-result : tie.Need-slice-read-result
+slice-read-result c = let e : c .before .if1 .memory ≡ carriedBy (routeOf (c .before .before .before .before .args .hold) (c .before .before .before .before .args .source) (c .before .before .before .before .args .target)) (c .before .before .before .before .args .memory .now) (c .before .before .before .before .args .n) = ⊎-elim (λ w. w .3 ∙ one-carried _ _ _ _ _ _ (w .0 .taken) (omega arith) (c .before .before .along .ensures)) (λ w. w .6 ∙ (rw (w .1 .ensures) at (w .3 .ensures))) (c .before .if1 .came) in let size = ap (λ (l : List ℕ). length l) e ∙ route-length _ _ _ ∙ c .before .before .before .before .pre .0 in omega (arith, size)
 
-abbrev μ-loop : tie.MeasureT-loop
-μ-loop memory₀ n here₀ left₀ memory here left = left
+same-length : tie.Need-same-length
+same-length c = let e : c .before .if1 .memory ≡ carriedBy (routeOf (c .before .before .before .before .args .hold) (c .before .before .before .before .args .source) (c .before .before .before .before .args .target)) (c .before .before .before .before .args .memory .now) (c .before .before .before .before .args .n) = ⊎-elim (λ w. w .3 ∙ one-carried _ _ _ _ _ _ (w .0 .taken) (omega arith) (c .before .before .along .ensures)) (λ w. w .6 ∙ (rw (w .1 .ensures) at (w .3 .ensures))) (c .before .if1 .came) in ap (λ (l : List ℕ). length l) e ∙ route-length _ _ _
 
-loop-holds : tie.Need-loop-holds Inv-loop μ-loop
-loop-holds c = record { same = refl; size = c .before .pre .0; source = omega (arith, c .before .good); target = omega (arith, c .before .good) }
-
-straight-requires : tie.Need-straight-requires Inv-loop μ-loop
-straight-requires c κs = tt
-
-carry-straight-requires : tie.Need-carry-straight-requires Inv-loop μ-loop
-carry-straight-requires c κs = (c .before .before .before .loop .inv .size, moving-piece _ (c .before .before .before .loop .inv) (c .before .straight .ensures) .straight)
-
-farther-requires : tie.Need-farther-requires Inv-loop μ-loop
-farther-requires c κs = search needs
-
-sub-left : tie.Need-sub-left Inv-loop μ-loop
-sub-left c = omega (arith, moving-piece _ (c .before .before .before .before .before .before .before .loop .inv) (c .before .before .before .before .before .straight .ensures) .most)
-
-loop-less : tie.Need-loop-less Inv-loop μ-loop
-loop-less c = let p = moving-piece _ (c .before .before .before .before .before .before .before .loop .inv) (c .before .before .before .before .before .straight .ensures) in omega (arith, p .most, p .some (omega arith))
-
-loop-again : tie.Need-loop-again Inv-loop μ-loop
-loop-again c = moving-on _ _ _ _ _ _ _ _ _ (c .before .before .before .before .before .before .before .loop .inv) (moving-piece _ (c .before .before .before .before .before .before .before .loop .inv) (c .before .before .before .before .before .straight .ensures) .most) (c .before .before .before .carry-straight .ensures) (c .farther .ensures)
-
-same-length : tie.Need-same-length Inv-loop μ-loop
-same-length c = omega (arith, c .before .loop .inv .size, c .before .before .before .pre .0)
-
-returns : tie.Need-returns Inv-loop μ-loop
-returns c = moving-end _ _ _ _ _ _ (c .before .loop .inv) (omega arith)
+returns : tie.Need-returns
+returns c = let e : c .before .if1 .memory ≡ carriedBy (routeOf (c .before .before .before .before .args .hold) (c .before .before .before .before .args .source) (c .before .before .before .before .args .target)) (c .before .before .before .before .args .memory .now) (c .before .before .before .before .args .n) = ⊎-elim (λ w. w .3 ∙ one-carried _ _ _ _ _ _ (w .0 .taken) (omega arith) (c .before .before .along .ensures)) (λ w. w .6 ∙ (rw (w .1 .ensures) at (w .3 .ensures))) (c .before .if1 .came) in (rw (c .before .before .along .ensures) (last-moved _ _ _ _ _ _ (c .before .before .before .before .pre .1) (c .before .before .before .before .pre .0) e), e)
 
 pub copy-bytes-spec : {M : Type 1} → statement M
 copy-bytes-spec =
     tie.close
     (tie.spec
-    Inv-loop
-    μ-loop
-    loop-holds
-    straight-requires
-    carry-straight-requires
-    farther-requires
-    sub-left
-    loop-less
-    loop-again
+    (search needs)
+    (search needs)
+    (search needs)
+    (search needs)
+    (search needs)
+    (search needs)
+    (search needs)
+    (search needs)
+    slice-read-result
     same-length
     returns)

@@ -1,0 +1,24 @@
+use Rattle.service.proofs.TravelLaws.{one-stored}
+use native.Mathlib.Omega.{arith}
+use borrow.Author.Needs.{needs}
+use Rattle.service.proofs.bytes.bring.Statement.{statement}
+use Rattle.service.proofs.bytes.bring.Tie as tie
+
+returns : tie.Need-returns
+returns c = one-stored _ _ _ _ _ (c .before .if1 .taken) (omega arith)
+
+returns-2 : tie.Need-returns-2
+returns-2 c = rw (c .before .before .before .decrement .ensures) at (c .before .before .store .ensures 16 (c .before .before .before .before .before .before .before .before .pre .0))
+
+pub bring-spec : {M : Type 1} → statement M
+bring-spec =
+    tie.close
+    (tie.spec
+    (search needs)
+    (search needs)
+    (search needs)
+    (search needs)
+    (search needs)
+    returns
+    (search needs)
+    returns-2)
