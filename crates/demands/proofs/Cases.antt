@@ -19,31 +19,32 @@ use Rattle.am9517.specs.declared.Answer.{Answer}
 use Rattle.am9517.specs.declared.Answer.the-variants.{Value}
 use Rattle.am9517.specs.Ranges.{modeValid, modesValid, fieldsValid, serviceValid, valid}
 use Rattle.am9517.specs.Registers.{portWritten, portRead, modeWritten, afterWrite, value, afterRead}
-use Rattle.am9517.specs.Serving.{active, requestCounts, requests, entitled, setOf, status, picked, granted}
+use Rattle.am9517.specs.Serving.{active, requestCounts, requests, entitled, setOf, status, pickedFrom, picked, granted}
 use Rattle.am9517.specs.Refusals.{refusal, idle, busy}
 use Rattle.am9517.specs.Answers.{outcome, grantOf}
 use Rattle.am9517.specs.declared.Controller.{Controller}
 use Rattle.service.specs.World.{Stop, stop, startOf, withController, memoryToMemory}
 use Rattle.service.specs.Stops.{dropped, short, stops}
-use Rattle.service.specs.States.{statesWithoutS1, needsS1, cost}
+use Rattle.service.specs.States.{pace, needsS1, cost}
 use Rattle.service.specs.Transfer.{moved}
 use Rattle.service.specs.Copy.{copied}
-use Rattle.service.specs.Ends.{runner, finished, afterTcOrEop, single}
+use Rattle.service.specs.Ends.{counting, finished, afterTcOrEop, single}
 use Rattle.service.specs.Run.{transferred, runOf}
 use Rattle.service.specs.Answers.{given, stopped, refusedOf, wrongSize, runGrounds, ranOf}
-use Rattle.service.specs.Closed.{least, untilEnd, stockOf, along, onward, entered, statesOf, travelled, reached, closing}
+use Rattle.words.specs.Spans.{least}
+use Rattle.service.specs.Legs.{untilEnd, stockOf, along, onward, entered, statesOf, travelled, reached}
 use Rattle.service.specs.declared.Reason.the-variants.{Ended}
 use Rattle.sheet.specs.Bytes.{total}
 use Rattle.sheet.specs.Body.{bodyOf, stateOf}
+use Rattle.sheet.specs.Sheet.{answerOf}
 use Rattle.demands.specs.Lists.{All, none, also}
 use Rattle.demands.specs.Operations.{Grant, Run, Round, SheetWriting, SheetReading, next, afterAll, said}
 use Rattle.demands.specs.Fairness.{Granted, told, grants, channels, Contends}
 use Rattle.demands.specs.Cases.{Holds, services, setUp, idleWith, ch, ends, proved, whole, limits, WorkedCases, Tight, p5, p6}
 use Rattle.words.proofs.ChoiceLaws.{when-hit, never}
-use Rattle.am9517.proofs.RefusalLaws.{number-told}
 use Rattle.service.proofs.AnswerLaws.{run-accepted}
 use Rattle.service.proofs.ServiceLaws.{run-ends}
-use Rattle.sheet.proofs.SheetLaws.{write-told}
+use Rattle.sheet.proofs.SheetLaws.{number-said}
 use Rattle.demands.proofs.Refusals.{ran-told, round-told}
 
 run-free : (s : Controller) (m : List ℕ) → valid s ≡ true → eqb (s .«in_service») 0 ≡ false → length m ≡ 65536 → refusal (runGrounds s m) ≡ 0
@@ -93,8 +94,8 @@ p5-grants : (m : List ℕ) → length m ≡ 65536
     → grants (at 15 3 0 0 0 0) (services m 5)
     ≡ to (at 15 3 0 0 0 0) 0 ∷ to (at 15 0 1 0 0 0) 1 ∷ to (at 15 1 1 1 0 0) 2 ∷ to (at 15 2 1 1 1 0) 3 ∷ to (at 15 3 1 1 1 1) 0 ∷ []
 unfolding
-    when _and_ first withBit stride step modeValid modesValid fieldsValid serviceValid valid active requestCounts entitled picked granted refusal outcome memoryToMemory dropped short stops
-    statesWithoutS1 needsS1 cost moved runner finished afterTcOrEop single transferred runOf
+    when _and_ first withBit stride step modeValid modesValid fieldsValid serviceValid valid active requestCounts entitled setOf pickedFrom picked granted refusal outcome memoryToMemory dropped short stops
+    pace needsS1 cost moved counting finished afterTcOrEop single transferred runOf
 p5-grants m h =
     served m h (at 15 3 0 0 0 0) (at 15 0 1 0 0 0) 0 4 _ refl refl
     (served m h (at 15 0 1 0 0 0) (at 15 1 1 1 0 0) 1 3 _ refl refl
@@ -105,8 +106,8 @@ p5-grants m h =
 p6-grants : (m : List ℕ) → length m ≡ 65536
     → grants (at 10 1 0 0 0 0) (services m 3) ≡ to (at 10 1 0 0 0 0) 3 ∷ to (at 10 3 0 0 0 1) 1 ∷ to (at 10 1 0 1 0 1) 3 ∷ []
 unfolding
-    when _and_ first withBit stride step modeValid modesValid fieldsValid serviceValid valid active requestCounts entitled picked granted refusal outcome memoryToMemory dropped short stops
-    statesWithoutS1 needsS1 cost moved runner finished afterTcOrEop single transferred runOf
+    when _and_ first withBit stride step modeValid modesValid fieldsValid serviceValid valid active requestCounts entitled setOf pickedFrom picked granted refusal outcome memoryToMemory dropped short stops
+    pace needsS1 cost moved counting finished afterTcOrEop single transferred runOf
 p6-grants m h =
     served m h (at 10 1 0 0 0 0) (at 10 3 0 0 0 1) 3 2 _ refl refl
     (served m h (at 10 3 0 0 0 1) (at 10 1 0 1 0 1) 1 1 _ refl refl (served m h (at 10 1 0 1 0 1) (at 10 3 0 1 0 2) 3 0 [] refl refl refl))
@@ -145,11 +146,11 @@ round-says s m d r k w e = round-told s m d r k ∙ ap (λ (t : Bool). when (not
 -- the numbers that sheets say, by the size of the slice
 sheet-writing-says : (s : Controller) (out : List ℕ) (n : ℕ) → length out ≡ n → said s (SheetWriting out) ≡ when (not (valid s)) 1 (when (ltb n 56) 9 0)
 unfolding refusal first
-sheet-writing-says s out n h = write-told s out ∙ ap (λ (k : ℕ). when (not (valid s)) 1 (when (ltb k 56) 9 0)) h
+sheet-writing-says s out n h = number-said _ ∙ ap (λ (k : ℕ). when (not (valid s)) 1 (when (ltb k 56) 9 0)) h
 
 sheet-reading-says : (s : Controller) (bytes : List ℕ) (n : ℕ) → length bytes ≡ n → n < 56 → said s (SheetReading bytes) ≡ 9
 unfolding refusal first
-sheet-reading-says s bytes n h l = number-told _ _ _ _ refl ∙ when-hit (ltb (length bytes) 56) _ _ (lt-ltb (length bytes) 56 (omega arith))
+sheet-reading-says s bytes n h l = number-said _ ∙ when-hit (ltb (length bytes) 56) _ _ (lt-ltb (length bytes) 56 (omega arith))
 
 -- 65,536 transfers, by the law of a service that ends with its n-th transfer
 module _ (a : ℕ) (below : a < 65536) (m : List ℕ) where
@@ -157,15 +158,15 @@ module _ (a : ℕ) (below : a < 65536) (m : List ℕ) where
   start = afterAll (idleWith (ch a a 0xFFFF 0xFFFF 0x80) blank 0 0 14 0) (Grant ∷ [])
 
   whole-run : runOf 65536 0 [] (startOf start m [])
-      ≡ stop (withController (reached start m [] [] 65536) (closing (reached start m [] [] 65536 .controller) (reached start m [] [] 65536 .controller .serving) true false)) Ended
+      ≡ stop (withController (reached start m [] [] 65536) (finished (reached start m [] [] 65536 .controller) (reached start m [] [] 65536 .controller .serving) true false)) Ended
   unfolding
-      when _and_ first modeValid modesValid fieldsValid serviceValid valid active requestCounts entitled picked granted refusal outcome memoryToMemory dropped least untilEnd stockOf
+      when _and_ first modeValid modesValid fieldsValid serviceValid valid active requestCounts entitled setOf pickedFrom picked granted refusal outcome memoryToMemory dropped least untilEnd stockOf
   whole-run = run-ends start m [] [] 65536 0 refl refl refl below (omega arith) 65536 refl (omega arith)
 
 whole-cases : All Holds whole
 unfolding
-    when _and_ first withBit stride steps modeValid modesValid fieldsValid serviceValid valid active requestCounts entitled picked granted refusal outcome
-    statesWithoutS1 needsS1 finished along onward entered statesOf travelled reached stopped
+    when _and_ first withBit stride steps modeValid modesValid fieldsValid serviceValid valid active requestCounts entitled setOf pickedFrom picked granted refusal outcome
+    pace needsS1 finished along onward entered statesOf travelled reached stopped
 whole-cases =
     also (λ m h. ran-whole _ m [] 0 refl refl h ∙ ap stopped (whole-run 0 (omega arith) m) ∙ refl)
     (also (λ m h. ran-whole _ m [] 0 refl refl h ∙ ap stopped (whole-run 1 (omega arith) m) ∙ refl) none)
@@ -173,7 +174,7 @@ whole-cases =
 proved-cases : All Holds proved
 unfolding
     when _and_ first withBit byteOf withByte stride step modeValid modesValid fieldsValid serviceValid valid portWritten portRead modeWritten afterWrite value afterRead
-    active requestCounts requests entitled setOf status picked granted refusal outcome memoryToMemory dropped short stops statesWithoutS1 needsS1 cost moved copied runner finished afterTcOrEop single
+    active requestCounts requests entitled setOf status pickedFrom picked granted refusal outcome memoryToMemory dropped short stops pace needsS1 cost moved copied counting finished afterTcOrEop single
     transferred runOf stopped
 proved-cases =
     also (λ m h. ran-whole _ m _ _ refl refl h ∙ refl)
@@ -189,7 +190,7 @@ proved-cases =
 
 limit-cases : All Holds limits
 unfolding
-    when _and_ first modeValid modesValid fieldsValid serviceValid valid active requestCounts entitled picked granted refusal outcome total bodyOf stateOf
+    when _and_ first modeValid modesValid fieldsValid serviceValid valid active requestCounts entitled setOf pickedFrom picked granted refusal outcome answerOf total bodyOf stateOf
 limit-cases =
     also (λ m h. refl)
     (also (λ m h. refl)

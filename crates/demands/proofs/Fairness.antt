@@ -26,6 +26,7 @@ use Rattle.demands.specs.Fairness.{Traced, Granted, told, made, grants, 
 use Rattle.words.proofs.ChoiceLaws.{when-both, when-hit, when-miss}
 use Rattle.words.proofs.GroundLaws.{passed}
 use Rattle.am9517.proofs.StateLaws.{ranges, fields}
+use Rattle.am9517.proofs.ServingLaws.{picked-asked}
 use Rattle.service.proofs.AnswerLaws.{run-refused, run-accepted}
 use Rattle.service.proofs.KeepLaws.{run-left}
 use Rattle.demands.proofs.Turns.{place, Turns, over, then, turns-fair}
@@ -124,19 +125,18 @@ module _ (low : ℕ) (E : ℕ → Bool) where
 place-at : (low c : ℕ) → c < 4 → (low + 1 + place low c) % 4 ≡ c
 place-at low c h = omega arith
 
-picked-early : (s : Controller) (c : ℕ) → c < 4 → rotating s ≡ true → entitled s c ≡ true → Early (s .lowest) (place (s .lowest) c) (picked s)
-unfolding picked
+picked-early : (s : Controller) (c : ℕ) → c < 4 → rotating (s .command) ≡ true → entitled s c ≡ true → Early (s .lowest) (place (s .lowest) c) (picked s)
 picked-early s c h rot e =
-    rw (when-hit (rotating s) (s .lowest + 1) 0 rot)
+    rw (picked-asked s, when-hit (rotating (s .command)) (s .lowest) 3 rot)
     (first-early (s .lowest) (entitled s) (place (s .lowest) c) (omega arith) (rw (place-at (s .lowest) c h) e))
 
 grant-valid : (s : Controller) → refusal (grantGrounds s) ≡ 0 → valid s ≡ true
 unfolding refusal first
 grant-valid s e = not-false _ (passed _ _ _ (omega arith) e .test)
 
-lowest-granted : (s : Controller) (n : ℕ) → rotating s ≡ true → granted s n .lowest ≡ n
+lowest-granted : (s : Controller) (n : ℕ) → rotating (s .command) ≡ true → granted s n .lowest ≡ n
 unfolding granted
-lowest-granted s n rot = when-hit (rotating s) _ _ rot
+lowest-granted s n rot = when-hit (rotating (s .command)) _ _ rot
 
 all-rest : {A : Type 0} {P : A → Type 0} (xs ys : List A) → All P (xs ++ ys) → All P ys
 all-rest [] ys h = h

@@ -3,10 +3,8 @@
 use mathlib.Core.Path.{_≡_, refl, sym, ap, _∙_}
 use Prim.Native.Nat.{ℕ}
 use mathlib.Core.List.{List}
-use Rattle.service.specs.declared.whole.Whole.{Whole}
-use Rattle.service.specs.Whole.{wholeMemory, wholeRoom}
 use Rattle.service.specs.Answers.{Given}
-use Rattle.round.specs.Answers.{RoundGiven}
+use Rattle.service.specs.RoundAnswers.{RoundGiven}
 use Rattle.sheet.specs.Sheet.{Stored}
 use Rattle.demands.specs.Outcomes.{OneOutcome}
 
@@ -27,19 +25,18 @@ one-outcome =
       active = record { free = λ κs a. tt; single = λ κs a x y l l' p q. (same p q, refl) };
       entitledSet = record { free = λ κs a. tt; single = λ κs a x y l l' p q. (same p q, refl) };
       picked = record { free = λ κs a. tt; single = λ κs a x y l l' p q. (same p q, refl) };
+      lines = record { free = λ κs a. tt; single = λ κs a x y l l' p q. (same p q, refl) };
+      blocks = record { free = λ κs a. tt; single = λ κs a x y l l' p q. (same p q, refl) };
+      entitledOf = record { free = λ κs a. tt; single = λ κs a x y l l' p q. (same p q, refl) };
+      pickedFrom = record { free = λ κs a. tt; single = λ κs a x y l l' p q. (same p q, refl) };
       ended = record { free = λ κs a. tt; single = λ κs a x y l l' p q. (same p q, refl) };
       run = record { free = λ κs a. tt; single = λ κs a x y l l' p q. (ap (λ (g : Given). g .ran) (same p q), ap (λ (g : Given). (tt, (g .memory, (tt, (g .room, (tt, (tt, tt))))))) (same p q)) };
-      serveWhole = record {
-        free = λ κs a. tt;
-        single = λ κs a x y l l' p q.
-            let e : x ≡ y = same (p .0) (q .0) in
-            let pm = p .1 .0 ∙ ap (λ (w : Whole). wholeMemory (a .1 .0) (w .«is_whole») (a .1 .1 .1 .1 .1 .1 .1 .1 .0 .now) (a .1 .1 .1 .1 .1 .1 .1 .0 .now)) e ∙ sym (q .1 .0) in
-            let pr = p .1 .1 ∙ ap (λ (w : Whole). wholeRoom (a .1 .0) (w .«is_whole») (a .1 .1 .1 .1 .1 .1 .1 .0 .now) (a .1 .1 .1 .1 .1 .1 .1 .1 .1 .0 .now)) e ∙ sym (q .1 .1) in
-            (e, ap (λ (m : List ℕ). (tt, (tt, (tt, (tt, (tt, (tt, (tt, (m, (tt, (l .1 .1 .1 .1 .1 .1 .1 .1 .1 .0, tt))))))))))) pm ∙ ap (λ (r : List ℕ). (tt, (tt, (tt, (tt, (tt, (tt, (tt, (l' .1 .1 .1 .1 .1 .1 .1 .0, (tt, (r, tt))))))))))) pr);
-      };
       round = record { free = λ κs a. tt; single = λ κs a x y l l' p q. (ap (λ (g : RoundGiven). g .rounded) (same p q), ap (λ (g : RoundGiven). (tt, (g .memory, (tt, (g .room, (tt, tt)))))) (same p q)) };
       sheetWrite = record { free = λ κs a. tt; single = λ κs a x y l l' p q. (ap (λ (s : Stored). s .answer) (same p q), ap (λ (s : Stored). (tt, (s .bytes, tt))) (same p q)) };
       sheetRead = record { free = λ κs a. tt; single = λ κs a x y l l' p q. (same p q, refl) };
+      told = record { free = λ κs a. tt; single = λ κs a x y l l' p q. (same p q, refl) };
+      sealRefusal = record { free = λ κs a. tt; single = λ κs a x y l l' p q. (same p q, refl) };
+      seal = record { free = λ κs a. tt; single = λ κs a x y l l' p q. (refl, ap (λ (bs : List ℕ). (bs, (tt, tt))) (same p q)) };
       bodyOf = record { free = λ κs a. tt; single = λ κs a x y l l' p q. (same p q, refl) };
       stateOf = record { free = λ κs a. tt; single = λ κs a x y l l' p q. (same p q, refl) };
     }

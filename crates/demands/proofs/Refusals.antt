@@ -6,7 +6,6 @@ use mathlib.Core.Bool.{Bool, true, false}
 use mathlib.Core.List.{List, [], _∷_}
 use mathlib.Core.Logic.{_↔_}
 use lib.Dec.{eqb}
-use lib.ListN.{length}
 use borrow.Author.Tests.{ne-eqb, eqb-true}
 use Rattle.words.specs.Choice.{when}
 use Rattle.words.specs.Grounds.{Ground, first}
@@ -16,17 +15,16 @@ use Rattle.am9517.specs.declared.Controller.{Controller}
 use Rattle.am9517.specs.declared.Answer.{Answer}
 use Rattle.service.specs.World.{Stop}
 use Rattle.service.specs.Answers.{given, runNumberOf, stopped, refusedOf, ranOf, runGrounds}
-use Rattle.round.specs.declared.RoundAnswer.the-variants.{Refused}
-use Rattle.round.specs.Round.{Course, Close, beginning, close, afterNext, roundOf}
-use Rattle.round.specs.Answers.{roundNumberOf, closed, roundGrounds, roundedOf}
-use Rattle.sheet.specs.Sheet.{sheetWriteGrounds, sheetWriteOf}
+use Rattle.service.specs.declared.RoundAnswer.the-variants.{Refused}
+use Rattle.service.specs.Round.{Course, Close, beginning, close, afterNext, roundOf}
+use Rattle.service.specs.RoundAnswers.{roundNumberOf, closed, roundGrounds, roundedOf}
 use Rattle.demands.specs.Lists.{All, none, also}
 use Rattle.demands.specs.Operations.{Op, Write, Read, Pins, Reset, Grant, Run, Round, SheetWriting, SheetReading, before, after, said, counts, ranScene, roundScene}
 use Rattle.demands.specs.Refusals.{First, here, later, grounds, Refuses, Demand1}
-use Rattle.words.proofs.ChoiceLaws.{when-both}
+use Rattle.words.proofs.ChoiceLaws.{when-both, when-miss}
 use Rattle.am9517.proofs.RefusalLaws.{number-told}
 use Rattle.service.proofs.AnswerLaws.{run-refused}
-use Rattle.sheet.proofs.SheetLaws.{write-told}
+use Rattle.sheet.proofs.SheetLaws.{number-said}
 
 -- by whether the first ground holds, and what is known of those after it
 first-by : (n : ℕ) (g : Ground ℕ) (gs : List (Ground ℕ)) (t : Bool) → g .holds ≡ t → (first gs 0 ≡ n → First n gs) → when t (g .gives) (first gs 0) ≡ n → First n (g ∷ gs)
@@ -109,11 +107,6 @@ unfolding closed
 round-zeros s m d r k h =
     rw (round-refused s m d r k h) (also refl (also refl (also refl (also refl (also refl (also refl (also refl (also refl none))))))))
 
--- a sheet that is not written
-sheet-stays : (s : Controller) (out : List ℕ) → ¬ (refusal (sheetWriteGrounds s (length out)) ≡ 0) → sheetWriteOf s out .bytes ≡ out
-unfolding sheetWriteOf when
-sheet-stays s out h = rw (ne-eqb _ 0 h)
-
 pub demand-1 : Demand1
 demand-1 s (Write r b) = refuses s (Write r b) (number-told _ _ _ _ refl) (λ h. ap (λ (c : Controller). before c Reset) (outcome-stays _ _ _ _ h)) (λ h. none)
 demand-1 s (Read r) = refuses s (Read r) (number-told _ _ _ _ refl) (λ h. ap (λ (c : Controller). before c Reset) (outcome-stays _ _ _ _ h)) (λ h. none)
@@ -124,5 +117,5 @@ demand-1 s (Run m d r limit eop) =
     refuses s (Run m d r limit eop) (ran-told s m d r limit eop) (λ h. ap ranScene (run-refused s m d r limit eop _ refl h))
     (λ h. rw (run-refused s m d r limit eop _ refl h) (also refl (also refl (also refl (also refl none)))))
 demand-1 s (Round m d r k) = refuses s (Round m d r k) (round-told s m d r k) (round-stays s m d r k) (round-zeros s m d r k)
-demand-1 s (SheetWriting out) = refuses s (SheetWriting out) (write-told s out) (λ h. ap (λ (xs : List ℕ). before s (SheetWriting xs)) (sheet-stays s out h)) (λ h. none)
-demand-1 s (SheetReading bytes) = refuses s (SheetReading bytes) (number-told _ _ _ _ refl) (λ h. ap (λ (c : Controller). before c Reset) (outcome-stays _ _ _ _ h)) (λ h. none)
+demand-1 s (SheetWriting out) = refuses s (SheetWriting out) (number-said _) (λ h. ap (λ (xs : List ℕ). before s (SheetWriting xs)) (when-miss _ _ _ (ne-eqb _ 0 h))) (λ h. none)
+demand-1 s (SheetReading bytes) = refuses s (SheetReading bytes) (number-said _) (λ h. ap (λ (c : Controller). before c Reset) (when-miss _ _ _ (ne-eqb _ 0 h))) (λ h. none)

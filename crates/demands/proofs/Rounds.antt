@@ -21,8 +21,8 @@ use Rattle.service.specs.declared.Reason.{Reason}
 use Rattle.service.specs.declared.Reason.the-variants.{Ended, Dropped, Cascade, Limit, Short}
 use Rattle.service.specs.World.{startOf}
 use Rattle.service.specs.Answers.{Given, stopped}
-use Rattle.round.specs.Round.{Course, Close, beginning, nobody, runNext, withRun, afterNext, isEnded, roundOf}
-use Rattle.round.specs.Answers.{RoundGiven, closed, roundGrounds, roundedOf}
+use Rattle.service.specs.Round.{Course, Close, beginning, nobody, runNext, withRun, afterNext, isEnded, roundOf}
+use Rattle.service.specs.RoundAnswers.{RoundGiven, closed, roundGrounds, roundedOf}
 use Rattle.demands.specs.Lists.{All, none, also, count}
 use Rattle.demands.specs.Operations.{Op, Write, Read, Pins, Reset, Grant, Run, Round, SheetWriting, SheetReading, next, afterAll}
 use Rattle.demands.specs.Fairness.{Traced, told, grants, channels, Fair}
@@ -32,8 +32,9 @@ use Rattle.am9517.proofs.StateLaws.{ranges, of-ranges, below4}
 use Rattle.am9517.proofs.KeepLaws.{granted-kept}
 use Rattle.service.proofs.AnswerLaws.{run-accepted}
 use Rattle.service.proofs.KeepLaws.{Counted, run-counted, Left, run-left}
-use Rattle.round.proofs.GrantLaws.{picked-most, granted-open, granted-runs, grant-some}
-use Rattle.round.proofs.AnswerLaws.{round-accepted, round-open}
+use Rattle.am9517.proofs.ServingLaws.{picked-most}
+use Rattle.service.proofs.GrantLaws.{granted-open, granted-runs, grant-some}
+use Rattle.service.proofs.RollLaws.{round-accepted, round-open}
 use Rattle.demands.proofs.Turns.{Turns, over, then}
 use Rattle.demands.proofs.Fairness.{turns-of, demand-3}
 use Rattle.demands.proofs.Refusals.{round-refused}
@@ -86,23 +87,23 @@ module _ (d : List ℕ) (w : Course) (at : Stands w) (some : nobody (w .controll
   below = omega (arith, picked-most (w .controller), eqb-false n 4 some)
 
   abbrev run : Op
-  run = Run (w .memory) (drop (w .used) d) (drop (w .written) (w .room)) 65536 0
+  run = Run (w .memory) (drop (w .totals .used) d) (drop (w .totals .written) (w .room)) 65536 0
 
   ran : next g run ≡ runNext w d .world .controller
   unfolding runNext stopped
   ran =
       ap (λ (x : Given). x .ran .controller)
-      (run-accepted g (w .memory) (drop (w .used) d) (drop (w .written) (w .room)) 65536 0 (granted-runs (w .controller) (at .range) (at .idle) some (w .memory) (at .memory)))
+      (run-accepted g (w .memory) (drop (w .totals .used) d) (drop (w .totals .written) (w .room)) 65536 0 (granted-runs (w .controller) (at .range) (at .idle) some (w .memory) (at .memory)))
 
   left-by : Left (g .lowest) (runNext w d)
   unfolding runNext
   left-by =
-      run-left 65536 0 (drop (w .used) d) (startOf g (w .memory) (drop (w .written) (w .room))) (granted-kept (w .controller) (ranges (w .controller) (at .range)) n below) (granted-open (w .controller) n)
+      run-left 65536 0 (drop (w .totals .used) d) (startOf g (w .memory) (drop (w .totals .written) (w .room))) (granted-kept (w .controller) (ranges (w .controller) (at .range)) n below) (granted-open (w .controller) n)
 
-  counted-by : Counted 65536 (length (drop (w .written) (w .room))) (length (drop (w .used) d)) 65536 (runNext w d .world)
+  counted-by : Counted 65536 (length (drop (w .totals .written) (w .room))) (length (drop (w .totals .used) d)) 65536 (runNext w d .world)
   unfolding runNext
   counted-by =
-      run-counted 65536 (length (drop (w .written) (w .room))) (drop (w .used) d) 65536 0 (startOf g (w .memory) (drop (w .written) (w .room)))
+      run-counted 65536 (length (drop (w .totals .written) (w .room))) (drop (w .totals .used) d) 65536 0 (startOf g (w .memory) (drop (w .totals .written) (w .room)))
       (record { memory-length = at .memory; room-length = refl; used = omega arith; written = omega arith; transfers = omega arith; states = omega arith })
 
   stands-on : isEnded (runNext w d .reason) ≡ true → Stands (afterNext w d)

@@ -10,7 +10,9 @@ use Rattle.am9517.specs.declared.Controller.{Controller}
 use Rattle.am9517.specs.declared.Answer.the-variants.{Value}
 use Rattle.service.specs.declared.Reason.the-variants.{Ended}
 use Rattle.service.specs.declared.RunAnswer.the-variants.{Stopped}
+use Rattle.service.specs.Counts.{counts}
 use Rattle.service.specs.Answers.{Given, given, ranOf}
+use Rattle.sheet.specs.declared.forms.Form.the-variants.{One}
 use Rattle.sheet.specs.Sheet.{sheetOf}
 use Rattle.demands.specs.Lists.{All}
 use Rattle.demands.specs.Operations as op
@@ -56,7 +58,7 @@ idleWith c0 c1 command tc mask temporary =
 -- "ended": the controller, transfers, device bytes used, states and the memory; no room was lent
 abbrev pub ends : Controller → ℕ → ℕ → ℕ → List ℕ → Given
 ends s transfers used states m =
-    given (record { controller = s; answer = Stopped Ended; transfers = transfers; used = used; written = 0; states = states }) m []
+    given (record { controller = s; answer = Stopped Ended; counts = counts transfers used 0 states }) m []
 
 -- channel 0 is granted from idle and run: its registers before and after, command, device bytes, EOP, TC bits and mask after,
 -- transfers, states, and the memory after
@@ -193,7 +195,7 @@ limits =
     ∷ called 55 (λ m. SheetWriting m) 9
     ∷ called 56 (λ m. SheetWriting m) 0
     ∷ called 55 (λ m. SheetReading m) 9
-    ∷ called 0 (λ m. SheetReading (sheetOf fresh)) 0
+    ∷ called 0 (λ m. SheetReading (sheetOf One fresh)) 0
     ∷ running 65535 (λ m. Run m [] [] 65536 0) 7
     ∷ running 65536 (λ m. Run m [] [] 65536 0) 0
     ∷ running 65537 (λ m. Run m [] [] 65536 0) 7

@@ -59,7 +59,7 @@ channels gs = map (λ (g : Granted). g .channel) gs
 
 -- rotation is on, and channel c is entitled
 pub record Contends (c : ℕ) (g : Granted) : Type 0 where
-  pub rotation : rotating (g .before) ≡ true
+  pub rotation : rotating (g .before .command) ≡ true
   pub entitled : entitled (g .before) c ≡ true
 
 -- Channel c is served fairly in these grants:

@@ -3,11 +3,11 @@ use Prim.Native.Nat.{ℕ}
 use mathlib.Core.List.{List, [], _∷_, _++_}
 use Rattle.am9517.specs.Answers.{numberOf, writeOf, readOf, pinsOf, resetOf, grantOf}
 use Rattle.am9517.specs.declared.Controller.{Controller}
-use Rattle.service.specs.declared.Ran.{Ran}
+use Rattle.service.specs.declared.Counts.{Counts}
 use Rattle.service.specs.Answers.{Given, runNumberOf, ranOf}
-use Rattle.round.specs.declared.Rounded.{Rounded}
-use Rattle.round.specs.Answers.{RoundGiven, roundNumberOf, roundedOf}
-use Rattle.sheet.specs.Sheet.{Stored, sheetWriteOf, sheetReadOf}
+use Rattle.service.specs.RoundAnswers.{RoundGiven, roundNumberOf, roundedOf}
+use Rattle.sheet.specs.declared.forms.Form.the-variants.{One}
+use Rattle.sheet.specs.Sheet.{sheetNumberOf, sheetWriteOf, sheetReadOf}
 
 pub data Op : Type 0 where
   -- register, byte
@@ -62,8 +62,8 @@ after s Reset = scene (resetOf s .controller) [] [] []
 after s Grant = scene (grantOf s .controller) [] [] []
 after s (Run m d r limit eop) = ranScene (ranOf s m d r limit eop)
 after s (Round m d r k) = roundScene (roundedOf s m d r k)
-after s (SheetWriting out) = scene s [] [] (sheetWriteOf s out .bytes)
-after s (SheetReading bytes) = scene (sheetReadOf s bytes .controller) [] [] []
+after s (SheetWriting out) = scene s [] [] (sheetWriteOf One s out .bytes)
+after s (SheetReading bytes) = scene (sheetReadOf One s bytes .controller) [] [] []
 
 -- the next state
 abbrev pub next : Controller → Op → Controller
@@ -83,14 +83,11 @@ said s Reset = numberOf (resetOf s .answer)
 said s Grant = numberOf (grantOf s .answer)
 said s (Run m d r limit eop) = runNumberOf (ranOf s m d r limit eop .ran .answer)
 said s (Round m d r k) = roundNumberOf (roundedOf s m d r k .rounded .answer)
-said s (SheetWriting out) = numberOf (sheetWriteOf s out .answer)
-said s (SheetReading bytes) = numberOf (sheetReadOf s bytes .answer)
+said s (SheetWriting out) = sheetNumberOf (sheetWriteOf One s out .answer)
+said s (SheetReading bytes) = sheetNumberOf (sheetReadOf One s bytes .answer)
 
-abbrev pub ranCounts : Ran → List ℕ
-ranCounts r = r .transfers ∷ r .used ∷ r .written ∷ r .states ∷ []
-
-abbrev pub roundCounts : Rounded → List ℕ
-roundCounts r = r .services ++ (r .transfers ∷ r .used ∷ r .written ∷ r .states ∷ [])
+abbrev pub listed : Counts → List ℕ
+listed n = n .transfers ∷ n .used ∷ n .written ∷ n .states ∷ []
 
 -- the counts that stand beside the answer
 abbrev pub counts : Controller → Op → List ℕ
@@ -99,7 +96,7 @@ counts s (Read r) = []
 counts s (Pins p) = []
 counts s Reset = []
 counts s Grant = []
-counts s (Run m d r limit eop) = ranCounts (ranOf s m d r limit eop .ran)
-counts s (Round m d r k) = roundCounts (roundedOf s m d r k .rounded)
+counts s (Run m d r limit eop) = listed (ranOf s m d r limit eop .ran .counts)
+counts s (Round m d r k) = roundedOf s m d r k .rounded .services ++ listed (roundedOf s m d r k .rounded .totals)
 counts s (SheetWriting out) = []
 counts s (SheetReading bytes) = []

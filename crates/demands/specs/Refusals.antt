@@ -9,7 +9,8 @@ use Rattle.words.specs.Grounds.{Ground}
 use Rattle.am9517.specs.Refusals.{writeGrounds, readGrounds, pinsGrounds, resetGrounds, grantGrounds}
 use Rattle.am9517.specs.declared.Controller.{Controller}
 use Rattle.service.specs.Answers.{runGrounds}
-use Rattle.round.specs.Answers.{roundGrounds}
+use Rattle.service.specs.RoundAnswers.{roundGrounds}
+use Rattle.sheet.specs.declared.forms.Form.the-variants.{One}
 use Rattle.sheet.specs.Sheet.{sheetWriteGrounds, sheetReadGrounds}
 use Rattle.demands.specs.Lists.{All}
 use Rattle.demands.specs.Operations.{Op, Write, Read, Pins, Reset, Grant, Run, Round, SheetWriting, SheetReading, before, after, said, counts}
@@ -23,8 +24,8 @@ grounds s Reset = resetGrounds s
 grounds s Grant = grantGrounds s
 grounds s (Run m d r limit eop) = runGrounds s m
 grounds s (Round m d r k) = roundGrounds s m k
-grounds s (SheetWriting out) = sheetWriteGrounds s (length out)
-grounds s (SheetReading bytes) = sheetReadGrounds bytes
+grounds s (SheetWriting out) = sheetWriteGrounds One s (length out)
+grounds s (SheetReading bytes) = sheetReadGrounds One bytes
 
 -- n is the number of a ground that holds, and none before it does
 pub data First (n : ℕ) : List (Ground ℕ) → Type 0 where

@@ -9,8 +9,8 @@ use Rattle.words.specs.Choice.{when}
 use Rattle.words.specs.Grounds.{_if_, first}
 use Rattle.am9517.specs.Refusals.{refusal}
 use Rattle.am9517.specs.declared.Controller.{Controller}
-use Rattle.round.specs.Round.{Course, beginning, nobody, runNext, afterNext, isEnded}
-use Rattle.round.specs.Answers.{roundGrounds, roundedOf}
+use Rattle.service.specs.Round.{Course, beginning, nobody, runNext, afterNext, isEnded}
+use Rattle.service.specs.RoundAnswers.{roundGrounds, roundedOf}
 use Rattle.demands.specs.Lists.{All, count}
 use Rattle.demands.specs.Operations.{Op, Write, Read, Pins, Reset, Grant, Run, Round, SheetWriting, SheetReading, next, afterAll}
 use Rattle.demands.specs.Fairness.{Traced, grants, channels, Contends, Fair}
@@ -21,7 +21,7 @@ callsFrom zero d w = []
 callsFrom (suc left) d w =
     first ([] if nobody (w .controller) ∷ [])
     (Grant
-    ∷ Run (w .memory) (drop (w .used) d) (drop (w .written) (w .room)) 65536 0
+    ∷ Run (w .memory) (drop (w .totals .used) d) (drop (w .totals .written) (w .room)) 65536 0
     ∷ first ([] if not (isEnded (runNext w d .reason)) ∷ []) (callsFrom left d (afterNext w d)))
 
 -- the calls of a round; a refused one makes none

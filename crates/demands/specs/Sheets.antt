@@ -5,7 +5,8 @@ use mathlib.Core.List.{List, [], _∷_, _++_}
 use lib.ListN.{length, replicate}
 use Rattle.am9517.specs.State.{fresh}
 use Rattle.am9517.specs.declared.Controller.{Controller}
-use Rattle.am9517.specs.declared.Answer.the-variants.{Done}
+use Rattle.sheet.specs.declared.SheetAnswer.the-variants.{Done}
+use Rattle.sheet.specs.declared.forms.Form.the-variants.{One}
 use Rattle.sheet.specs.Bytes.{OfBytes}
 use Rattle.sheet.specs.Sheet.{sheetOf, stored, sheetWriteOf, sheetReadOf}
 
@@ -14,13 +15,13 @@ pub record RoundTrips : Type 0 where
   -- What was written is read back, whatever state t the reader had.
   pub writtenRead : (s t : Controller) (out : List ℕ)
       → length (s .channels) ≡ 4
-      → sheetWriteOf s out .answer ≡ Done
-      → sheetReadOf t (sheetWriteOf s out .bytes) ≡ record { controller = s; answer = Done }
+      → sheetWriteOf One s out .answer ≡ Done
+      → sheetReadOf One t (sheetWriteOf One s out .bytes) ≡ record { controller = s; answer = Done }
   -- What was read is written back: the slice holds the same bytes.
   pub readWritten : (t : Controller) (bytes : List ℕ)
       → OfBytes bytes
-      → sheetReadOf t bytes .answer ≡ Done
-      → sheetWriteOf (sheetReadOf t bytes .controller) bytes ≡ stored Done bytes
+      → sheetReadOf One t bytes .answer ≡ Done
+      → sheetWriteOf One (sheetReadOf One t bytes .controller) bytes ≡ stored Done bytes
   -- "The fresh sheet: all zero but byte 39 = 0Fh and 43 = 03h, then 01 00 30 00 12 00 44 4D."
-  pub freshSheet : sheetOf fresh
+  pub freshSheet : sheetOf One fresh
       ≡ replicate 39 0 ++ (0x0F ∷ 0 ∷ 0 ∷ 0 ∷ 0x03 ∷ 0 ∷ 0 ∷ 0 ∷ 0 ∷ 0x01 ∷ 0x00 ∷ 0x30 ∷ 0x00 ∷ 0x12 ∷ 0x00 ∷ 0x44 ∷ 0x4D ∷ [])

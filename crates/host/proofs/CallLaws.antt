@@ -15,9 +15,9 @@ use Rattle.am9517.specs.declared.Answer.{Answer}
 use Rattle.am9517.specs.declared.Answer.the-variants.{Done}
 use Rattle.am9517.specs.declared.Controller.{Controller}
 use Rattle.am9517.specs.declared.Outcome.{Outcome}
-use Rattle.sheet.specs.Bytes.{last}
-use Rattle.sheet.specs.Body.{stateOf}
-use Rattle.sheet.specs.Sheet.{sheetReadOf}
+use Rattle.sheet.specs.declared.forms.Form.the-variants.{One}
+use Rattle.sheet.specs.Form.{sheetSize}
+use Rattle.sheet.specs.Sheet.{sheetReadOf, toldIn}
 use Rattle.host.specs.declared.Told.{Told}
 use Rattle.host.specs.declared.sheets.Sheet.{Sheet}
 use Rattle.host.specs.Numbers.{valueOf, told}
@@ -29,15 +29,15 @@ module _ {A : Type 0} (state : List ℕ) (refused : ℕ → A) (go : Controller 
   unfolding openedOf when
   refused-by n is bad = simp (sym is, ne-eqb _ _ bad)
 
-  pub gone-by : (n : ℕ) → n ≡ sheetRefusal state → n ≡ 0 → go (sheetReadOf fresh state .controller) ≡ openedOf state refused go
+  pub gone-by : (n : ℕ) → n ≡ sheetRefusal state → n ≡ 0 → go (sheetReadOf One fresh state .controller) ≡ openedOf state refused go
   unfolding openedOf when
   gone-by n is good = simp (sym is, eq-eqb _ _ good)
 
-module _ (state : List ℕ) (sheet : Sheet) (is : sheet ≡ record { controller = sheetReadOf fresh state .controller; refusal = sheetRefusal state }) where
+module _ (state : List ℕ) (sheet : Sheet) (is : sheet ≡ record { controller = sheetReadOf One fresh state .controller; refusal = sheetRefusal state }) where
   number-is : sheet .refusal ≡ sheetRefusal state
   number-is = ap (λ (s : Sheet). s .refusal) is
 
-  pub opened-room : sheet .refusal ≡ 0 → 56 ≤ length state
+  pub opened-room : sheet .refusal ≡ 0 → sheetSize One ≤ length state
   opened-room good = good-room state (sym number-is ∙ good)
 
   pub opened-refused : {A : Type 0} (refused : ℕ → A) (go : Controller → A) → (sheet .refusal ≡ 0 → ⊥) → refused (sheet .refusal) ≡ openedOf state refused go
@@ -48,16 +48,16 @@ module _ (state : List ℕ) (sheet : Sheet) (is : sheet ≡ record { controller 
 
 -- an operation done on what the body tells is done on what a good sheet tells
 pub called : (operation : Controller → Outcome) (state : List ℕ) (c : Controller) (o : Outcome)
-    → (56 ≤ length state → c ≡ stateOf (last 56 state)) → o ≡ operation c
+    → c ≡ toldIn One state → o ≡ operation c
     → openedOf state (refusedOf state) (λ (s : Controller). doneOf state o) ≡ callOf operation state
 unfolding openedOf when
 called operation state c o told is = go (eqb (sheetRefusal state) 0) refl
   where
     go : (t : Bool) → eqb (sheetRefusal state) 0 ≡ t
-        → when t (doneOf state o) (refusedOf state (sheetRefusal state)) ≡ when t (doneOf state (operation (sheetReadOf fresh state .controller))) (refusedOf state (sheetRefusal state))
+        → when t (doneOf state o) (refusedOf state (sheetRefusal state)) ≡ when t (doneOf state (operation (sheetReadOf One fresh state .controller))) (refusedOf state (sheetRefusal state))
     go true e =
         let good = eqb-true _ _ e in
-        ap (doneOf state) (is ∙ ap operation (told (good-room state good) ∙ sym (good-state state good)))
+        ap (doneOf state) (is ∙ ap operation (told ∙ sym (good-state state good)))
     go false e = refl
 
 -- an operation that is done or refused has no value

@@ -7,7 +7,7 @@ use mathlib.Core.List.{List, [], _∷_}
 use lib.Dec.{eqb, ltb}
 use lib.ListN.{length, take}
 use native.Mathlib.Omega.{arith}
-use borrow.Author.Tests.{ltb-false, eq-eqb, ne-eqb}
+use borrow.Author.Tests.{ltb-false, le-ltb, eq-eqb, ne-eqb}
 use Rattle.words.specs.Choice.{when}
 use Rattle.words.specs.Grounds.{Ground, _if_, first}
 use Rattle.words.proofs.ChoiceLaws.{when-both, when-hit, when-miss}
@@ -18,23 +18,26 @@ use Rattle.am9517.specs.Refusals.{refusal}
 use Rattle.am9517.specs.Answers.{numberOf, writeOf, readOf, pinsOf, resetOf, grantOf}
 use Rattle.am9517.specs.declared.Controller.{Controller}
 use Rattle.am9517.proofs.RefusalLaws.{number-told}
-use Rattle.sheet.specs.Bytes.{word, total, last}
+use Rattle.sheet.specs.declared.forms.Form.the-variants.{One}
+use Rattle.sheet.specs.Form.{sheetSize}
 use Rattle.sheet.specs.Body.{stateOf}
-use Rattle.sheet.specs.Trailer.{endMark}
-use Rattle.sheet.specs.Sheet.{sheetReadGrounds, sheetReadOf}
-use Rattle.sheet.proofs.SheetLaws.{read-room, read-done}
+use Rattle.sheet.specs.Sheet.{sheetIn, sealGrounds, sheetReadGrounds, sheetReadOf, toldIn}
+use Rattle.sheet.proofs.SheetLaws.{number-said, read-room, read-done}
 use Rattle.host.specs.Host.{sheetRefusal}
-use Rattle.host.specs.Needs.{sealRefusal, RangeAsked}
+use Rattle.host.specs.Needs.{RangeAsked}
 
-sheet-number : (state : List ℕ) → sheetRefusal state ≡ refusal (sheetReadGrounds state)
-sheet-number state = number-told _ _ _ _ refl
+sheet-number : (state : List ℕ) → sheetRefusal state ≡ refusal (sheetReadGrounds One state)
+sheet-number state = number-said _
 
 -- a good sheet has room, and tells the state of its body
-pub good-room : (state : List ℕ) → sheetRefusal state ≡ 0 → 56 ≤ length state
-good-room state e = read-room state (sym (sheet-number state) ∙ e)
+pub good-room : (state : List ℕ) → sheetRefusal state ≡ 0 → sheetSize One ≤ length state
+good-room state e = read-room One state (sym (sheet-number state) ∙ e)
 
-pub good-state : (state : List ℕ) → sheetRefusal state ≡ 0 → sheetReadOf fresh state .controller ≡ stateOf (last 56 state)
-good-state state e = ap (λ o. o .controller) (read-done fresh state (sym (sheet-number state) ∙ e))
+told-room : (state : List ℕ) → sheetSize One ≤ length state → toldIn One state ≡ stateOf One (sheetIn One state)
+told-room state h = ap (stateOf One) (when-miss _ _ _ (le-ltb _ _ h))
+
+pub good-state : (state : List ℕ) → sheetRefusal state ≡ 0 → sheetReadOf One fresh state .controller ≡ toldIn One state
+good-state state e = ap (λ o. o .controller) (read-done One state fresh (sym (sheet-number state) ∙ e)) ∙ sym (told-room state (good-room state e))
 
 chain : (a b c d e : Bool) (x : ℕ)
     → when (eqb (when a 9 (when b 10 (when c 11 (when d 12 (when e 13 0))))) 0) x (when a 9 (when b 10 (when c 11 (when d 12 (when e 13 0)))))
@@ -49,31 +52,30 @@ chain false false false false false x = refl
 
 -- 9 to 13 by the bytes, 14 by the ranges
 in-parts : (state : List ℕ)
-    → when (eqb (sealRefusal state) 0) (when (not (valid (stateOf (last 56 state)))) 14 0) (sealRefusal state) ≡ sheetRefusal state
+    → when (eqb (refusal (sealGrounds One state)) 0) (when (not (valid (stateOf One (sheetIn One state)))) 14 0) (refusal (sealGrounds One state)) ≡ sheetRefusal state
 unfolding first refusal
 in-parts state =
-    let sheet = last 56 state in
-    chain (ltb (length state) 56) (not (eqb (word sheet 54) endMark)) (not (eqb (word sheet 48) 1)) (not (eqb (word sheet 50) 48))
-    (not (eqb (word sheet 52) (total (take 48 sheet)))) (when (not (valid (stateOf sheet))) 14 0)
+    let sheet = sheetIn One state in
+    chain _ _ _ _ _ (when (not (valid (stateOf One sheet))) 14 0)
     ∙ sym (sheet-number state)
 
-pub not-sealed : (state : List ℕ) (n : ℕ) → n ≡ sealRefusal state → (n ≡ 0 → ⊥) → n ≡ sheetRefusal state
+pub not-sealed : (state : List ℕ) (n : ℕ) → n ≡ refusal (sealGrounds One state) → (n ≡ 0 → ⊥) → n ≡ sheetRefusal state
 not-sealed state n is bad = is ∙ sym (when-miss _ _ _ (ne-eqb _ _ (λ e. bad (is ∙ e)))) ∙ in-parts state
 
-module _ (state : List ℕ) (sealed : sealRefusal state ≡ 0) where
-  pub sealed-room : 56 ≤ length state
-  unfolding first
+module _ (state : List ℕ) (sealed : refusal (sealGrounds One state) ≡ 0) where
+  pub sealed-room : sheetSize One ≤ length state
+  unfolding refusal first
   sealed-room = ltb-false _ _ (passed _ _ _ (omega arith) sealed .test)
 
-  ranges-left : when (not (valid (stateOf (last 56 state)))) 14 0 ≡ sheetRefusal state
-  ranges-left = sym (when-hit _ _ _ (eq-eqb _ _ sealed)) ∙ in-parts state
+  ranges-left : when (not (valid (toldIn One state))) 14 0 ≡ sheetRefusal state
+  ranges-left = rw (told-room state sealed-room) (sym (when-hit _ _ _ (eq-eqb _ _ sealed)) ∙ in-parts state)
 
   -- the operation on it said 1, or not
   pub out-of-ranges : (n : ℕ) → RangeAsked state n → n ≡ 1 → 14 ≡ sheetRefusal state
-  out-of-ranges n asked e = sym (when-hit _ _ _ (sym (asked sealed-room) ∙ eq-eqb n 1 e)) ∙ ranges-left
+  out-of-ranges n asked e = sym (when-hit _ _ _ (sym asked ∙ eq-eqb n 1 e)) ∙ ranges-left
 
   pub in-ranges : (n : ℕ) → RangeAsked state n → (n ≡ 1 → ⊥) → 0 ≡ sheetRefusal state
-  in-ranges n asked h = sym (when-miss _ _ _ (sym (asked sealed-room) ∙ ne-eqb n 1 h)) ∙ ranges-left
+  in-ranges n asked h = sym (when-miss _ _ _ (sym asked ∙ ne-eqb n 1 h)) ∙ ranges-left
 
 -- an operation whose first ground is 1 says 1 exactly where that holds
 asked-first : (t : Bool) (rest : List (Ground ℕ)) → eqb (first rest 0) 1 ≡ false → eqb (refusal (1 if t ∷ rest)) 1 ≡ t

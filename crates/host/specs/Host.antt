@@ -10,9 +10,11 @@ use Rattle.am9517.specs.Answers.{numberOf}
 use Rattle.am9517.specs.declared.Controller.{Controller}
 use Rattle.am9517.specs.declared.Outcome.{Outcome}
 use Rattle.service.specs.Answers.{Given, runNumberOf, ranOf}
-use Rattle.round.specs.Answers.{RoundGiven, roundNumberOf, roundedOf}
+use Rattle.service.specs.RoundAnswers.{RoundGiven, roundNumberOf, roundedOf}
+use Rattle.sheet.specs.declared.forms.Form.the-variants.{One}
 use Rattle.sheet.specs.Bytes.{placed}
-use Rattle.sheet.specs.Sheet.{Stored, sheetOf, sheetWriteOf, sheetReadOf}
+use Rattle.sheet.specs.Form.{sheetSize}
+use Rattle.sheet.specs.Sheet.{Stored, sheetNumberOf, sheetOf, sheetWriteOf, sheetReadOf}
 use Rattle.host.specs.declared.Told.{Told}
 use Rattle.host.specs.declared.RunTold.{RunTold}
 use Rattle.host.specs.declared.RoundTold.{RoundTold}
@@ -20,16 +22,16 @@ use Rattle.host.specs.Numbers.{told, toldOf, runToldOf, roundToldOf}
 
 -- the refusal of the sheet in these bytes, 9 to 14; 0 where it is good
 abbrev pub sheetRefusal : List ℕ → ℕ
-sheetRefusal state = numberOf (sheetReadOf fresh state .answer)
+sheetRefusal state = sheetNumberOf (sheetReadOf One fresh state .answer)
 
 -- the sheet is opened: `go` with its state, or `refused` with its number
 module _ {A : Type 0} where
   unfoldable pub openedOf : List ℕ → (ℕ → A) → (Controller → A) → A
-  openedOf state refused go = when (eqb (sheetRefusal state) 0) (go (sheetReadOf fresh state .controller)) (refused (sheetRefusal state))
+  openedOf state refused go = when (eqb (sheetRefusal state) 0) (go (sheetReadOf One fresh state .controller)) (refused (sheetRefusal state))
 
 -- the state's bytes after an operation that said n (0: no refusal) and gave s
 unfoldable pub keptOf : ℕ → Controller → List ℕ → List ℕ
-keptOf n s state = when (eqb n 0) (placed state (length state - 56) (sheetOf s)) state
+keptOf n s state = when (eqb n 0) (placed state (length state - sheetSize One) (sheetOf One s)) state
 
 -- What a call says, and the bytes that it was lent to change.
 pub record Left : Type 0 where
@@ -55,11 +57,11 @@ abbrev pub lookOf : (Controller → Told) → List ℕ → Told
 lookOf shown state = openedOf state (λ n. told n 0) shown
 
 abbrev pub storedOf : Stored → Left
-storedOf s = left (told (numberOf (s .answer)) 0) (s .bytes)
+storedOf s = left (told (sheetNumberOf (s .answer)) 0) (s .bytes)
 
 -- the sheet at the end of one slice, stored at the end of another
 abbrev pub copyOf : List ℕ → List ℕ → Left
-copyOf to from = openedOf from (refusedOf to) (λ s. storedOf (sheetWriteOf s to))
+copyOf to from = openedOf from (refusedOf to) (λ s. storedOf (sheetWriteOf One s to))
 
 pub record RunLeft : Type 0 where
   pub said : RunTold

@@ -9,10 +9,10 @@ use Rattle.service.specs.declared.Reason.the-variants.{Ended, Dropped, Cascade,
 use Rattle.service.specs.declared.RunAnswer.{RunAnswer}
 use Rattle.service.specs.declared.RunAnswer.the-variants as run
 use Rattle.service.specs.declared.Ran.{Ran}
-use Rattle.round.specs.Answers.{roundNumberOf}
-use Rattle.round.specs.declared.RoundAnswer.{RoundAnswer}
-use Rattle.round.specs.declared.RoundAnswer.the-variants as round
-use Rattle.round.specs.declared.Rounded.{Rounded}
+use Rattle.service.specs.RoundAnswers.{roundNumberOf}
+use Rattle.service.specs.declared.RoundAnswer.{RoundAnswer}
+use Rattle.service.specs.declared.RoundAnswer.the-variants as round
+use Rattle.service.specs.declared.Rounded.{Rounded}
 use Rattle.host.specs.declared.Told.{Told}
 use Rattle.host.specs.declared.RunTold.{RunTold}
 use Rattle.host.specs.declared.RoundTold.{RoundTold}
@@ -54,10 +54,10 @@ runToldOf r =
     record {
       refusal = runNumberOf (r .answer);
       reason = runReasonOf (r .answer);
-      transfers = r .transfers;
-      used = r .used;
-      written = r .written;
-      states = r .states;
+      transfers = r .counts .transfers;
+      used = r .counts .used;
+      written = r .counts .written;
+      states = r .counts .states;
     }
 
 abbrev pub roundToldOf : Rounded → RoundTold
@@ -66,8 +66,8 @@ roundToldOf r =
       refusal = roundNumberOf (r .answer);
       reason = roundReasonOf (r .answer);
       services = r .services;
-      transfers = r .transfers;
-      used = r .used;
-      written = r .written;
-      states = r .states;
+      transfers = r .totals .transfers;
+      used = r .totals .used;
+      written = r .totals .written;
+      states = r .totals .states;
     }

@@ -7,23 +7,22 @@ use crate::numbers::wide;
 use crate::sheets::done;
 use crate::sheets::keep;
 use crate::sheets::opened;
-use crate::sheets::seal_refusal;
-use crate::sheets::state_told;
 use crate::sheets::stored;
 use am9517::Controller;
-use round::round;
+use service::round;
 use service::run;
 use sheet::body_of;
+use sheet::seal_refusal;
 ghost use mathlib.Core.Path.{_≡_};
 ghost use Rattle.am9517.specs.State.{fresh};
 ghost use Rattle.am9517.specs.Answers.{writeOf, readOf, pinsOf, resetOf, grantOf};
 ghost use Rattle.am9517.specs.Serving.{entitled, setOf, status};
 ghost use Rattle.am9517.specs.declared.Controller.{Controller};
+ghost use Rattle.sheet.specs.declared.forms.Form.the-variants.{One};
 ghost use Rattle.sheet.specs.Sheet.{sheetWriteOf};
 ghost use Rattle.host.specs.Numbers.{told};
 ghost use Rattle.host.specs.Host.{sheetRefusal, left, callOf, lookOf, storedOf, copyOf, runLeft, runCallOf, roundLeft, roundCallOf};
 
-mod bytes;
 mod display;
 mod numbers;
 mod sheets;
@@ -61,7 +60,7 @@ pub struct RoundTold {
 // A fresh state is stored.
 #[no_mangle]
 pub extern "C" fn am9517_fresh(state: &mut [u8]) -> u32
-    ensures { λ r. ⌜ left (told r 0) (now (state .exit)) ≡ storedOf (sheetWriteOf fresh (now (state .entry))) ⌝ }
+    ensures { λ r. ⌜ left (told r 0) (now (state .exit)) ≡ storedOf (sheetWriteOf One fresh (now (state .entry))) ⌝ }
 {
     stored(Controller::fresh(), state)
 }
@@ -91,11 +90,11 @@ pub extern "C" fn am9517_copy(to: &mut [u8], from: &[u8]) -> u32
 pub extern "C" fn am9517_write(state: &mut [u8], register: u32, byte: u8) -> u32
     ensures { λ r. ⌜ left (told r 0) (now (state .exit)) ≡ callOf (λ (s : Controller). writeOf s register byte) (now (state .entry)) ⌝ }
 {
-    let seal = seal_refusal(state);
+    let seal = wide(seal_refusal(state));
     if seal != 0 {
         return seal;
     }
-    let outcome = state_told(state).write(register, byte);
+    let outcome = sheet::told(state).write(register, byte);
     let answer = outcome.answer;
     done(state, answer, body_of(outcome.controller)).refusal
 }
@@ -105,14 +104,14 @@ pub extern "C" fn am9517_write(state: &mut [u8], register: u32, byte: u8) -> u32
 pub extern "C" fn am9517_read(state: &mut [u8], register: u32) -> Told
     ensures { λ r. ⌜ left r (now (state .exit)) ≡ callOf (λ (s : Controller). readOf s register) (now (state .entry)) ⌝ }
 {
-    let seal = seal_refusal(state);
+    let seal = wide(seal_refusal(state));
     if seal != 0 {
         return Told {
             refusal: seal,
             value: 0,
         };
     }
-    let outcome = state_told(state).read(register);
+    let outcome = sheet::told(state).read(register);
     let answer = outcome.answer;
     done(state, answer, body_of(outcome.controller))
 }
@@ -122,11 +121,11 @@ pub extern "C" fn am9517_read(state: &mut [u8], register: u32) -> Told
 pub extern "C" fn am9517_pins(state: &mut [u8], levels: u32) -> u32
     ensures { λ r. ⌜ left (told r 0) (now (state .exit)) ≡ callOf (λ (s : Controller). pinsOf s levels) (now (state .entry)) ⌝ }
 {
-    let seal = seal_refusal(state);
+    let seal = wide(seal_refusal(state));
     if seal != 0 {
         return seal;
     }
-    let outcome = state_told(state).pins(levels);
+    let outcome = sheet::told(state).pins(levels);
     let answer = outcome.answer;
     done(state, answer, body_of(outcome.controller)).refusal
 }
@@ -135,11 +134,11 @@ pub extern "C" fn am9517_pins(state: &mut [u8], levels: u32) -> u32
 pub extern "C" fn am9517_reset(state: &mut [u8]) -> u32
     ensures { λ r. ⌜ left (told r 0) (now (state .exit)) ≡ callOf resetOf (now (state .entry)) ⌝ }
 {
-    let seal = seal_refusal(state);
+    let seal = wide(seal_refusal(state));
     if seal != 0 {
         return seal;
     }
-    let outcome = state_told(state).reset();
+    let outcome = sheet::told(state).reset();
     let answer = outcome.answer;
     done(state, answer, body_of(outcome.controller)).refusal
 }
@@ -149,14 +148,14 @@ pub extern "C" fn am9517_reset(state: &mut [u8]) -> u32
 pub extern "C" fn am9517_grant(state: &mut [u8]) -> Told
     ensures { λ r. ⌜ left r (now (state .exit)) ≡ callOf grantOf (now (state .entry)) ⌝ }
 {
-    let seal = seal_refusal(state);
+    let seal = wide(seal_refusal(state));
     if seal != 0 {
         return Told {
             refusal: seal,
             value: 0,
         };
     }
-    let outcome = state_told(state).grant();
+    let outcome = sheet::told(state).grant();
     let answer = outcome.answer;
     done(state, answer, body_of(outcome.controller))
 }

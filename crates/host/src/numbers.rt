@@ -3,16 +3,18 @@ use crate::RoundTold;
 use crate::RunTold;
 use crate::Told;
 use am9517::Answer;
-use round::RoundAnswer;
-use round::Rounded;
 use service::Ran;
 use service::Reason;
+use service::RoundAnswer;
+use service::Rounded;
 use service::RunAnswer;
+use sheet::SheetAnswer;
 ghost use mathlib.Core.Path.{_≡_};
 ghost use Prim.Native.Nat.{_≤_};
 ghost use Rattle.am9517.specs.Answers.{numberOf};
 ghost use Rattle.service.specs.Answers.{runNumberOf};
-ghost use Rattle.round.specs.Answers.{roundNumberOf};
+ghost use Rattle.service.specs.RoundAnswers.{roundNumberOf};
+ghost use Rattle.sheet.specs.Sheet.{sheetNumberOf};
 ghost use Rattle.host.specs.Numbers.{reasonOf, runReasonOf, roundReasonOf, toldOf, runToldOf, roundToldOf};
 
 // A refusal's number and a reason's.
@@ -44,6 +46,16 @@ pub(crate) fn told_of(answer: Answer) -> Told
             refusal: wide(n),
             value: 0,
         },
+    }
+}
+
+// The refusal of a sheet written or read, 0 for none.
+pub(crate) fn sheet_number(answer: SheetAnswer) -> u32
+    ensures { λ r. ⌜ r ≡ sheetNumberOf answer ⌝ }
+{
+    match answer {
+        SheetAnswer::Done => 0,
+        SheetAnswer::Refused(n) => wide(n),
     }
 }
 
@@ -105,10 +117,10 @@ pub(crate) fn run_told_of(ran: Ran) -> RunTold
     RunTold {
         refusal: pair.refusal,
         reason: pair.reason,
-        transfers: ran.transfers,
-        used: ran.used,
-        written: ran.written,
-        states: ran.states,
+        transfers: ran.counts.transfers,
+        used: ran.counts.used,
+        written: ran.counts.written,
+        states: ran.counts.states,
     }
 }
 
@@ -122,9 +134,9 @@ pub(crate) fn round_told_of(rounded: Rounded) -> RoundTold
         refusal: pair.refusal,
         reason: pair.reason,
         services,
-        transfers: rounded.transfers,
-        used: rounded.used,
-        written: rounded.written,
-        states: rounded.states,
+        transfers: rounded.totals.transfers,
+        used: rounded.totals.used,
+        written: rounded.totals.written,
+        states: rounded.totals.states,
     }
 }

@@ -6,17 +6,17 @@ use mathlib.Core.List.{List}
 use Rattle.am9517.specs.declared.Controller.{Controller}
 use Rattle.service.specs.Answers.{Given, given}
 use Rattle.service.specs.declared.Ran.{Ran}
-use Rattle.round.specs.Answers.{RoundGiven, roundGiven}
-use Rattle.round.specs.declared.Rounded.{Rounded}
+use Rattle.service.specs.RoundAnswers.{RoundGiven, roundGiven}
+use Rattle.service.specs.declared.Rounded.{Rounded}
 use Rattle.text.specs.Text.{Page, put}
 use Rattle.runs.specs.Services.{Service, ranText, runService, roundedText, roundService}
 
 pub ran-so : (r : Ran) (m room : List ℕ) (p q : Page) (g : Given) → given r m room ≡ g → q ≡ put p (ranText r)
-    → _≡_ {A = Service} (record { controller = r .controller; used = r .used; written = r .written; memory = m; room = room; page = q }) (runService p g)
+    → _≡_ {A = Service} (record { controller = r .controller; used = r .counts .used; written = r .counts .written; memory = m; room = room; page = q }) (runService p g)
 unfolding runService
 ran-so r m room p q g e t = rw (← e, t)
 
 pub rounded-so : (r : Rounded) (m room : List ℕ) (p q : Page) (g : RoundGiven) → roundGiven r m room ≡ g → q ≡ put p (roundedText r)
-    → _≡_ {A = Service} (record { controller = r .controller; used = r .used; written = r .written; memory = m; room = room; page = q }) (roundService p g)
+    → _≡_ {A = Service} (record { controller = r .controller; used = r .totals .used; written = r .totals .written; memory = m; room = room; page = q }) (roundService p g)
 unfolding roundService
 rounded-so r m room p q g e t = rw (← e, t)

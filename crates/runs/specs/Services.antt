@@ -4,15 +4,16 @@ use mathlib.Core.List.{List, [], _∷_, _++_}
 use lib.ListN.{getD}
 use Rattle.am9517.specs.declared.Controller.{Controller}
 use Rattle.service.specs.Answers.{Given, ranOf}
+use Rattle.service.specs.declared.Counts.{Counts}
 use Rattle.service.specs.declared.Reason.{Reason}
 use Rattle.service.specs.declared.Reason.the-variants.{Ended, Dropped, Cascade, Limit, Short}
 use Rattle.service.specs.declared.RunAnswer.{RunAnswer}
 use Rattle.service.specs.declared.RunAnswer.the-variants.{Stopped as RunStopped, Refused as RunRefused}
 use Rattle.service.specs.declared.Ran.{Ran}
-use Rattle.round.specs.Answers.{RoundGiven, roundedOf}
-use Rattle.round.specs.declared.RoundAnswer.{RoundAnswer}
-use Rattle.round.specs.declared.RoundAnswer.the-variants.{Done, Quiet, Stopped, Refused}
-use Rattle.round.specs.declared.Rounded.{Rounded}
+use Rattle.service.specs.RoundAnswers.{RoundGiven, roundedOf}
+use Rattle.service.specs.declared.RoundAnswer.{RoundAnswer}
+use Rattle.service.specs.declared.RoundAnswer.the-variants.{Done, Quiet, Stopped, Refused}
+use Rattle.service.specs.declared.Rounded.{Rounded}
 use Rattle.text.specs.Text.{codes, Page, page, put}
 use Rattle.text.specs.Numbers.{numberOf, decimalText}
 use Rattle.answers.specs.Answers.{errorText, refusedText, numbered, wordMost}
@@ -26,16 +27,16 @@ reasonText Limit = codes "limit"
 reasonText Short = codes "short"
 
 -- " transfers=T used=U written=W states=S"
-unfoldable pub countsText : ℕ → ℕ → ℕ → ℕ → List ℕ
-countsText transfers used written states =
+unfoldable pub countsText : Counts → List ℕ
+countsText n =
     codes " transfers="
-    ++ decimalText transfers
+    ++ decimalText (n .transfers)
     ++ codes " used="
-    ++ decimalText used
+    ++ decimalText (n .used)
     ++ codes " written="
-    ++ decimalText written
+    ++ decimalText (n .written)
     ++ codes " states="
-    ++ decimalText states
+    ++ decimalText (n .states)
 
 unfoldable pub runText : RunAnswer → List ℕ → List ℕ
 runText (RunStopped why) counts = reasonText why ++ counts
@@ -77,14 +78,14 @@ abbrev pub unserved : Controller → List ℕ → List ℕ → Page → Service
 unserved c m room p = record { controller = c; used = 0; written = 0; memory = m; room = room; page = put p errorText }
 
 abbrev pub ranText : Ran → List ℕ
-ranText r = runText (r .answer) (countsText (r .transfers) (r .used) (r .written) (r .states))
+ranText r = runText (r .answer) (countsText (r .counts))
 
 unfoldable pub runService : Page → Given → Service
 runService p g =
     record {
       controller = g .ran .controller;
-      used = g .ran .used;
-      written = g .ran .written;
+      used = g .ran .counts .used;
+      written = g .ran .counts .written;
       memory = g .memory;
       room = g .room;
       page = put p (ranText (g .ran));
@@ -98,14 +99,14 @@ runReply c m device room p limit eop =
 
 abbrev pub roundedText : Rounded → List ℕ
 roundedText r =
-    roundText (r .answer) (servicesText (r .services) ++ countsText (r .transfers) (r .used) (r .written) (r .states))
+    roundText (r .answer) (servicesText (r .services) ++ countsText (r .totals))
 
 unfoldable pub roundService : Page → RoundGiven → Service
 roundService p g =
     record {
       controller = g .rounded .controller;
-      used = g .rounded .used;
-      written = g .rounded .written;
+      used = g .rounded .totals .used;
+      written = g .rounded .totals .written;
       memory = g .memory;
       room = g .room;
       page = put p (roundedText (g .rounded));

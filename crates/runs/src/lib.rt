@@ -2,10 +2,11 @@
 use am9517::Controller;
 use answers::error;
 use answers::refused;
-use round::RoundAnswer;
-use round::Rounded;
+use service::Counts;
 use service::Ran;
 use service::Reason;
+use service::RoundAnswer;
+use service::Rounded;
 use service::RunAnswer;
 use text::numbers::Number;
 use text::numbers::number_of;
@@ -39,24 +40,17 @@ fn reason_said(why: Reason, out: &mut [u8], at: usize) -> usize
     }
 }
 
-fn counts_said(
-    transfers: u64,
-    used: usize,
-    written: usize,
-    states: u64,
-    out: &mut [u8],
-    at: usize,
-) -> usize
-    ensures { λ r. ⌜ page (now (out .exit)) r ≡ put (page (now (out .entry)) at) (countsText transfers used written states) ⌝ }
+fn counts_said(n: Counts, out: &mut [u8], at: usize) -> usize
+    ensures { λ r. ⌜ page (now (out .exit)) r ≡ put (page (now (out .entry)) at) (countsText n) ⌝ }
 {
     let next = text(out, at, b" transfers=");
-    let next = decimal(out, next, transfers);
+    let next = decimal(out, next, n.transfers);
     let next = text(out, next, b" used=");
-    let next = decimal(out, next, used as u64);
+    let next = decimal(out, next, n.used as u64);
     let next = text(out, next, b" written=");
-    let next = decimal(out, next, written as u64);
+    let next = decimal(out, next, n.written as u64);
     let next = text(out, next, b" states=");
-    decimal(out, next, states)
+    decimal(out, next, n.states)
 }
 
 fn wide(n: u32) -> u64
@@ -85,7 +79,8 @@ fn run_said(ran: Ran, out: &mut [u8], at: usize) -> usize
     match answer {
         RunAnswer::Stopped(why) => {
             let next = reason_said(why, out, at);
-            counts_said(ran.transfers, ran.used, ran.written, ran.states, out, next)
+            let counts = ran.counts;
+            counts_said(counts, out, next)
         }
         RunAnswer::Refused(n) => refused(out, at, n),
     }
@@ -93,18 +88,12 @@ fn run_said(ran: Ran, out: &mut [u8], at: usize) -> usize
 
 // What a round did, whatever it is called.
 fn round_counts(done: Rounded, out: &mut [u8], at: usize) -> usize
-    ensures { λ r. ⌜ page (now (out .exit)) r ≡ put (page (now (out .entry)) at) (servicesText (done .services) ++ countsText (done .transfers) (done .used) (done .written) (done .states)) ⌝ }
+    ensures { λ r. ⌜ page (now (out .exit)) r ≡ put (page (now (out .entry)) at) (servicesText (done .services) ++ countsText (done .totals)) ⌝ }
 {
     let services = done.services;
     let next = services_said(services, out, at);
-    counts_said(
-        done.transfers,
-        done.used,
-        done.written,
-        done.states,
-        out,
-        next,
-    )
+    let totals = done.totals;
+    counts_said(totals, out, next)
 }
 
 fn round_said(done: Rounded, out: &mut [u8], at: usize) -> usize
@@ -162,8 +151,8 @@ pub fn run(
                 let controller = ran.controller;
                 Served {
                     controller,
-                    used: ran.used,
-                    written: ran.written,
+                    used: ran.counts.used,
+                    written: ran.counts.written,
                     at: next,
                 }
             }
@@ -187,13 +176,13 @@ pub fn go_round(
     let services = number_of(count, WORD);
     match services {
         Number::Value(k) => {
-            let done = round::round(c, memory, device, room, k);
+            let done = service::round(c, memory, device, room, k);
             let next = round_said(done, out, at);
             let controller = done.controller;
             Served {
                 controller,
-                used: done.used,
-                written: done.written,
+                used: done.totals.used,
+                written: done.totals.written,
                 at: next,
             }
         }

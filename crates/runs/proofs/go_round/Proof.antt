@@ -9,7 +9,7 @@ use Rattle.runs.proofs.go_round.Lts as lts
 use Rattle.text.proofs.numbers.number_of.Reads as number-of-reads
 use Rattle.runs.proofs.round_said.Reads as round-said-reads
 use Rattle.runs.proofs.unserved.Reads as unserved-reads
-use Rattle.round.proofs.round.Reads as round-reads
+use Rattle.service.proofs.round.Reads as round-reads
 
 -- src/lib.rt:180:9
 number-of-requires : tie.Need-number-of-requires

@@ -21,7 +21,7 @@ same-length c = search needs
 
 -- src/lib.rt:95:1
 returns : tie.Need-returns
-returns c = put-both _ _ _ _ _ (c .before .before .before .before .before .before .services-said .ensures) (c .before .before .counts-said .ensures)
+returns c = put-both _ _ _ _ _ (c .before .before .before .before .before .before .before .services-said .ensures) (c .before .before .counts-said .ensures)
 
 pub round-counts-spec : {M : Type 1} → statement M
 round-counts-spec =

@@ -36,7 +36,7 @@ same-length c = search needs
 -- src/lib.rt:81:1
 returns : tie.Need-returns
 unfolding runText
-returns c = simp (c .before .before .before .before .before .before .before .before .before .answer .given .1) (put-both _ _ _ _ _ (c .before .before .before .before .before .before .reason-said .ensures) (c .before .before .counts-said .ensures))
+returns c = simp (c .before .before .before .before .before .before .before .before .before .before .answer .given .1) (put-both _ _ _ _ _ (c .before .before .before .before .before .before .before .reason-said .ensures) (c .before .before .counts-said .ensures))
 
 -- src/lib.rt:81:1
 same-length-2 : tie.Need-same-length-2

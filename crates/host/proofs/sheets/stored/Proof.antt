@@ -1,11 +1,11 @@
-use Rattle.host.specs.Host.{storedOf}
 use mathlib.Core.Path.{ap}
+use Rattle.host.specs.Host.{storedOf}
 use borrow.Author.Needs.{needs}
 use Rattle.host.proofs.sheets.stored.Statement.{statement}
 use Rattle.host.proofs.sheets.stored.Tie as tie
 
 returns : tie.Need-returns
-returns c = rw (c .told-of .ensures) (ap storedOf (c .before .before .before .write .ensures))
+returns c = rw (c .sheet-number .ensures) (ap storedOf (c .before .before .before .write .ensures))
 
 pub stored-spec : {M : Type 1} → statement M
 stored-spec = tie.close (tie.spec (search needs) (search needs) (search needs) returns)
