@@ -1,5 +1,5 @@
 -- Document 01, "The controller's state".
--- Field, tag, field and make are the only lines that list every field beside the channels: a new field is one line in each.
+-- Field, tag, field and make are the only lines of this crate that list every field beside the channels: a new field is one line in each.
 use Prim.Native.Nat.{ℕ}
 use mathlib.Core.List.{List, [], _∷_}
 use mathlib.Core.Bool.{cond}

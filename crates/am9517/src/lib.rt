@@ -27,8 +27,8 @@ pub struct Channel {
     pub mode: u8,
 }
 
-// Every field is a byte, so that a state that breaks a range can be given, and is refused by 1. The order is that of ranges.rt: eight
-// fields asked as one number (the last four are what the end of a service clears), the temporary byte, which a read takes first, the command, two more that are asked as one.
+// Every field is a byte, so that a state that breaks a range can be given, and is refused by 1. First come eight fields that
+// ranges.rt asks as one number (the last four are what the end of a service clears); the other four stand as the loops of rounds are cheapest.
 pub struct Controller {
     pub channels: [Channel; 4],
     pub tc: u8,

@@ -36,7 +36,7 @@ impl Controller {
         low + 0x100000000 * high
     }
 
-    // Two more, the same way.
+    // Two more as one number.
     fn pair(self) -> u16
         ensures { λ r. ⌜ r ≡ pairOf self ⌝ }
     {

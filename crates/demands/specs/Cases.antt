@@ -210,6 +210,6 @@ cases = proved ++ (whole ++ limits)
 abbrev pub WorkedCases : Type 0
 WorkedCases = All Holds cases
 
--- Demand 3's numbers can't be better: in P5 channel 3 contends at each grant, waits for three others, and is led by one.
+-- Demand 3's numbers can't be better: in P5 channel 3 contends at each grant; that it waits for three others and is led by one, P5's list shows.
 abbrev pub Tight : Type 0
 Tight = (m : List ℕ) → length m ≡ p5 .size → All (Contends 3) (grants (p5 .start) (p5 .calls m))

@@ -11,6 +11,6 @@ stride w down = when down (2 ^ w - 1) 1
 unfoldable pub step : ℕ → Bool → ℕ → ℕ
 step w down x = (x + stride w down) % 2 ^ w
 
--- j steps from x, in closed form: for laws and private contracts
+-- j steps from x, in closed form: for what moves many bytes at once
 unfoldable pub steps : ℕ → Bool → ℕ → ℕ → ℕ
 steps w down x j = (x + j * stride w down) % 2 ^ w
