@@ -203,6 +203,13 @@ def machine():
     return platform.machine()
 
 
+def where_timed():
+    """A word before the times where they are an emulator's."""
+    if platform.machine() == "x86_64":
+        return []
+    return ["The times of this page are an emulator's: they say how much work it had, not how fast a processor is.", ""]
+
+
 def compiler():
     return open(os.path.join(ROOT, "target", "bench", "compiler"), encoding="utf-8").read().strip()
 
@@ -233,6 +240,7 @@ def page(measured):
         "",
         *missed(measured),
         "",
+        *where_timed(),
         *slower(measured),
         "",
         *long_blocks(measured),
