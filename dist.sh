@@ -3,7 +3,7 @@ usage() {
     cat <<'TEXT'
 usage: ./dist.sh
 
-Proves the crate host and makes dist/, the C library as a host takes it.
+Proves the crate c_am9517 and makes dist/, the C library as a host takes it.
 
 needs   the Rattle toolchain (its command rt)
 writes  dist/lib/libam9517.a, dist/include/am9517.h, dist/lib/pkgconfig/am9517.pc,
@@ -18,10 +18,10 @@ esac
 [ $# -eq 0 ] || { echo "dist: $1 is unknown (./dist.sh --help tells more)" >&2; exit 2; }
 set -eu
 cd "$(dirname "$0")"
-rt staticlib host
+rt staticlib c_am9517
 rm -rf dist
 mkdir -p dist/lib/pkgconfig dist/include
-cp target/staticlib/libhost.a dist/lib/libam9517.a
+cp target/staticlib/libc_am9517.a dist/lib/libam9517.a
 cp include/am9517.h dist/include/
 cp LICENSE dist/LICENSE
 cat > dist/README <<'TEXT'

@@ -1,18 +1,18 @@
 -- What keeps a state in its ranges.
--- Assumes nothing.
 use Prim.Native.Nat.{ℕ, zero, suc, _≤_, _<_}
 use mathlib.Core.Path.{_≡_, refl, ap, _∙_}
 use mathlib.Core.List.{List, [], _∷_}
 use native.Mathlib.Omega.{arith}
 use lib.ListN.{getD, set}
-use Rattle.am9517.specs.State.{blank, channel, put, ended}
+use Rattle.am9517.specs.State.{ended}
+use Rattle.am9517.specs.Fields.{blank, channel}
 use Rattle.am9517.specs.Modes.{rotating}
 use Rattle.am9517.specs.Ranges.{modeValid}
 use Rattle.am9517.specs.Serving.{granted}
 use Rattle.am9517.specs.declared.Channel.{Channel}
 use Rattle.am9517.specs.declared.Controller.{Controller}
 use Rattle.words.proofs.ChoiceLaws.{when-both}
-use Rattle.am9517.proofs.StateLaws.{Fields, Ranges}
+use Rattle.am9517.proofs.RangeLaws.{Fields, Ranges}
 
 -- a channel put with its own mode leaves every mode
 pub modes-kept : (l : List Channel) (n k : ℕ) (x : Channel) → x .mode ≡ getD l n blank .mode → getD (set l n x) k blank .mode ≡ getD l k blank .mode

@@ -1,8 +1,8 @@
 -- Laws about the definitions of specs/, for the proofs here and in the crates above.
-pub mod StateLaws
+pub mod RangeLaws
 pub mod KeepLaws
 pub mod RefusalLaws
 pub mod RegisterLaws
-pub mod TestLaws
-pub mod RangeLaws
+pub mod ModeLaws
+pub mod MaskLaws
 pub mod ServingLaws

@@ -1,208 +1,122 @@
--- The ranges of a state, asked of several fields at once by a mask.
--- Assumes nothing.
-use Prim.Native.Nat.{ℕ, zero, suc, _+_, _-_, _*_, _/_, _^_, _≤_, _<_}
-use mathlib.Core.Path.{_≡_, refl, sym, ap, _∙_}
-use mathlib.Core.Bool.{Bool, true, false, _&&_, _||_}
-use mathlib.Core.List.{List, [], _∷_}
+-- The ranges of a valid state, one by one, and back.
+use Prim.Native.Nat.{ℕ, zero, suc, _≤_, _<_}
+use mathlib.Core.Path.{_≡_, refl, sym}
+use mathlib.Core.Bool.{Bool, true, false, not, _&&_, _||_}
 use native.Mathlib.Omega.{arith}
-use native.Mathlib.Nat.{mod-eq-of-lt}
 use lib.Dec.{eqb}
-use lib.Bits.{bitAnd, and-block, and-high, and-zero-r}
-use borrow.Author.Tests.{eq-eqb, eqb-true, eqb-false}
-use Rattle.am9517.specs.Ranges.{modesValid, valid}
-use Rattle.am9517.specs.Masks.{joined, flags, pair, flagsOf, pairOf}
+use borrow.Author.Tests.{leb-true, le-leb, eq-eqb, eqb-true}
+use Rattle.am9517.specs.Fields.{channel}
+use Rattle.am9517.specs.Ranges.{modeValid, modesValid, fieldsValid, serviceValid, valid}
 use Rattle.am9517.specs.declared.Controller.{Controller}
-use Rattle.words.proofs.ChoiceLaws.{never}
-use Rattle.am9517.proofs.StateLaws.{Fields, Ranges, ranges, of-ranges, modes-of, and-left, and-right}
+use Rattle.words.proofs.ChoiceLaws.{both, both-hold, never}
 
--- all are bytes
-abbrev pub Bytes : List ℕ → Type 0
-Bytes [] = Unit {0}
-Bytes (b ∷ bs) = (b < 256) × Bytes bs
+pub record Fields (s : Controller) : Type 0 where
+  pub tc : s .tc ≤ 15
+  pub request : s .request ≤ 15
+  pub mask : s .mask ≤ 15
+  pub pins : s .pins ≤ 15
+  pub flipFlop : s .«flip_flop» ≤ 1
+  pub inService : s .«in_service» ≤ 1
+  pub latchFull : s .«latch_full» ≤ 1
+  pub lowest : s .lowest ≤ 3
+  pub serving : s .serving ≤ 3
 
--- each byte has no bit of its mask
-abbrev Clear : List ℕ → List ℕ → Type 0
-Clear [] ms = Unit {0}
-Clear (b ∷ bs) [] = Unit {0}
-Clear (b ∷ bs) (m ∷ ms) = (bitAnd b m ≡ 0) × Clear bs ms
+-- all ranges of a state
+pub record Ranges (s : Controller) : Type 0 where
+  pub mode : (n : ℕ) → n < 4 → modeValid (channel s n .mode) ≡ true
+  pub fields : Fields s
+  pub rest : s .«in_service» ≡ 0 → (s .serving ≡ 0) × (s .«latch_full» ≡ 0)
+  pub latch : s .«latch_full» ≡ 0 → s .latch ≡ 0
 
-clear : (bs ms : List ℕ) → Bytes bs → Bytes ms → bitAnd (joined bs) (joined ms) ≡ 0 → Clear bs ms
-unfolding joined
-clear [] ms hb hm e = tt
-clear (b ∷ bs) [] hb hm e = tt
-clear (b ∷ bs) (m ∷ ms) hb hm e =
-    let f : bitAnd (joined bs) (joined ms) * 256 + bitAnd b m ≡ 0 = sym (and-block 8 (joined bs) (joined ms) b m (hb .0) (hm .0)) ∙ e in
-    (omega arith, clear bs ms (hb .1) (hm .1) (omega arith))
+-- what holds of 0 to 3 holds below 4
+pub below4 : (P : ℕ → Type 0) → P 0 → P 1 → P 2 → P 3 → (n : ℕ) → n < 4 → P n
+below4 P a b c d zero h = a
+below4 P a b c d (suc zero) h = b
+below4 P a b c d (suc (suc zero)) h = c
+below4 P a b c d (suc (suc (suc zero))) h = d
+below4 P a b c d (suc (suc (suc (suc n)))) h = absurd (omega arith)
 
-cleared : (bs ms : List ℕ) → Bytes bs → Bytes ms → Clear bs ms → bitAnd (joined bs) (joined ms) ≡ 0
-unfolding joined
-cleared [] ms hb hm c = refl
-cleared (b ∷ bs) [] hb hm c = and-zero-r (joined (b ∷ bs))
-cleared (b ∷ bs) (m ∷ ms) hb hm c =
-    and-block 8 (joined bs) (joined ms) b m (hb .0) (hm .0) ∙ omega (arith, c .0, cleared bs ms (hb .1) (hm .1) (c .1))
+fields-of : (s : Controller) → fieldsValid s ≡ true → Fields s
+unfolding fieldsValid
+fields-of s e =
+    let f1 = both _ _ e in
+    let f2 = both _ _ (f1 .right) in
+    let f3 = both _ _ (f2 .right) in
+    let f4 = both _ _ (f3 .right) in
+    let f5 = both _ _ (f4 .right) in
+    let f6 = both _ _ (f5 .right) in
+    let f7 = both _ _ (f6 .right) in
+    let f8 = both _ _ (f7 .right) in
+    record {
+      tc = leb-true _ _ (f1 .left);
+      request = leb-true _ _ (f2 .left);
+      mask = leb-true _ _ (f3 .left);
+      pins = leb-true _ _ (f4 .left);
+      flipFlop = leb-true _ _ (f5 .left);
+      inService = leb-true _ _ (f6 .left);
+      latchFull = leb-true _ _ (f7 .left);
+      lowest = leb-true _ _ (f8 .left);
+      serving = leb-true _ _ (f8 .right);
+    }
 
--- the bits that must be zero in an idle state, in a service, and in the other two fields
-abbrev fourMasks : List ℕ → List ℕ
-fourMasks ms = 0xf0 ∷ 0xf0 ∷ 0xf0 ∷ 0xf0 ∷ ms
+of-fields : (s : Controller) → Fields s → fieldsValid s ≡ true
+unfolding fieldsValid
+of-fields s f =
+    both-hold (le-leb _ _ (f .tc)) (both-hold (le-leb _ _ (f .request)) (both-hold (le-leb _ _ (f .mask)) (both-hold (le-leb _ _ (f .pins))
+    (both-hold (le-leb _ _ (f .flipFlop)) (both-hold (le-leb _ _ (f .inService)) (both-hold (le-leb _ _ (f .latchFull)) (both-hold (le-leb _ _ (f .lowest)) (le-leb _ _ (f .serving)))))))))
 
-abbrev idleMasks : List ℕ
-idleMasks = 0xff ∷ 0xff ∷ 0xff ∷ 0xff ∷ []
+pub modes-of : (s : Controller) → modesValid s ≡ true → (n : ℕ) → n < 4 → modeValid (channel s n .mode) ≡ true
+unfolding modesValid
+modes-of s e =
+    let m1 = both _ _ e in
+    let m2 = both _ _ (m1 .right) in
+    let m3 = both _ _ (m2 .right) in
+    below4 (λ (n : ℕ). modeValid (channel s n .mode) ≡ true) (m1 .left) (m2 .left) (m3 .left) (m3 .right)
 
-abbrev openMasks : List ℕ
-openMasks = 0xfe ∷ 0xfc ∷ 0xfe ∷ 0 ∷ []
+of-modes : (s : Controller) → ((n : ℕ) → n < 4 → modeValid (channel s n .mode) ≡ true) → modesValid s ≡ true
+unfolding modesValid
+of-modes s h = both-hold (h 0 (omega arith)) (both-hold (h 1 (omega arith)) (both-hold (h 2 (omega arith)) (h 3 (omega arith))))
 
-abbrev pairMasks : List ℕ
-pairMasks = 0xfc ∷ 0xfe ∷ []
+-- a test that is waived by another
+unless : (a b : Bool) → not a || b ≡ true → a ≡ true → b ≡ true
+unless true b e h = e
+unless false b e h = never (sym h)
 
-idle-bytes : Bytes (fourMasks idleMasks)
-idle-bytes = (omega arith, (omega arith, (omega arith, (omega arith, (omega arith, (omega arith, (omega arith, (omega arith, tt))))))))
+of-unless : (a b : Bool) → (a ≡ true → b ≡ true) → not a || b ≡ true
+of-unless true b h = h refl
+of-unless false b h = refl
 
-open-bytes : Bytes (fourMasks openMasks)
-open-bytes = (omega arith, (omega arith, (omega arith, (omega arith, (omega arith, (omega arith, (omega arith, (omega arith, tt))))))))
+pub and-left : (a b : Bool) → a && b ≡ true → a ≡ true
+and-left true b e = refl
+and-left false b e = e
 
-pair-bytes : Bytes pairMasks
-pair-bytes = (omega arith, (omega arith, tt))
+pub and-right : (a b : Bool) → a && b ≡ true → b ≡ true
+and-right true b e = e
+and-right false b e = never (sym e)
 
--- what the high j of j + k bits leave of a number
-high-bits : (j k b : ℕ) → b / 2 ^ k < 2 ^ j → bitAnd b (2 ^ (j + k) - 2 ^ k) ≡ b / 2 ^ k * 2 ^ k
-high-bits j k b h = and-high b j k ∙ ap (λ (x : ℕ). x * 2 ^ k) (mod-eq-of-lt h)
+pub ranges : (s : Controller) → valid s ≡ true → Ranges s
+unfolding valid serviceValid
+ranges s e =
+    let v = both _ _ e in
+    let w = both _ _ (v .right) in
+    let x = both _ _ (w .right) in
+    record {
+      mode = modes-of s (v .left);
+      fields = fields-of s (w .left);
+      rest = λ h.
+          let y = unless (eqb (s .«in_service») 0) (eqb (s .serving) 0 && eqb (s .«latch_full») 0 && eqb (s .latch) 0) (x .left) (eq-eqb _ _ h) in
+          let z = and-left (eqb (s .serving) 0 && eqb (s .«latch_full») 0) (eqb (s .latch) 0) y in
+          (eqb-true _ _ (and-left (eqb (s .serving) 0) (eqb (s .«latch_full») 0) z), eqb-true _ _ (and-right (eqb (s .serving) 0) (eqb (s .«latch_full») 0) z));
+      latch = λ h. eqb-true _ _ (unless (eqb (s .«latch_full») 0) (eqb (s .latch) 0) (x .right) (eq-eqb _ _ h));
+    }
 
--- a byte that has none of the high bits is small, and a small one has none
-pub record Small (m top b : ℕ) : Type 0 where
-  pub told : bitAnd b m ≡ 0 → b ≤ top
-  pub holds : b ≤ top → bitAnd b m ≡ 0
+pub of-ranges : (s : Controller) → Ranges s → valid s ≡ true
+unfolding valid serviceValid
+of-ranges s r =
+    both-hold (of-modes s (r .mode)) (both-hold (of-fields s (r .fields)) (both-hold
+    (of-unless (eqb (s .«in_service») 0) (eqb (s .serving) 0 && eqb (s .«latch_full») 0 && eqb (s .latch) 0)
+    (λ h. let y = r .rest (eqb-true _ _ h) in simp (eq-eqb _ _ (y .0), eq-eqb _ _ (y .1), eq-eqb _ _ (r .latch (y .1)))))
+    (of-unless (eqb (s .«latch_full») 0) (eqb (s .latch) 0) (λ h. eq-eqb _ _ (r .latch (eqb-true _ _ h))))))
 
-module _ (b : ℕ) (h : b < 256) where
-  to15 : Small 0xf0 15 b
-  to15 = record { told = λ e. omega (arith, high-bits 4 4 b (omega arith)); holds = λ e. high-bits 4 4 b (omega arith) ∙ omega arith }
-
-  to3 : Small 0xfc 3 b
-  to3 = record { told = λ e. omega (arith, high-bits 6 2 b (omega arith)); holds = λ e. high-bits 6 2 b (omega arith) ∙ omega arith }
-
-  to1 : Small 0xfe 1 b
-  to1 = record { told = λ e. omega (arith, high-bits 7 1 b (omega arith)); holds = λ e. high-bits 7 1 b (omega arith) ∙ omega arith }
-
-  to0 : Small 0xff 0 b
-  to0 = record { told = λ e. omega (arith, high-bits 8 0 b (omega arith)); holds = λ e. high-bits 8 0 b (omega arith) ∙ omega arith }
-
--- the tests of `valid`
-abbrev idleFlags : Controller → Bool
-idleFlags s = eqb (bitAnd (flagsOf s) 0xffff_ffff_f0f0_f0f0) 0
-
-abbrev openFlags : Controller → Bool
-openFlags s = eqb (bitAnd (flagsOf s) 0x00fe_fcfe_f0f0_f0f0) 0
-
-abbrev pairTest : Controller → Bool
-pairTest s = eqb (bitAnd (pairOf s) 0xfefc) 0
-
-abbrev latchTest : Controller → Bool
-latchTest s = eqb (s .«latch_full») 1 || eqb (s .latch) 0
-
-abbrev pub idleTest : Controller → Bool
-idleTest s = idleFlags s && pairTest s
-
-abbrev openFields : Controller → Bool
-openFields s = openFlags s && pairTest s
-
-abbrev pub openTest : Controller → Bool
-openTest s = (openFields s && eqb (s .«in_service») 1) && latchTest s
-
-module _ (s : Controller) (fits : Bytes (flags s)) (both : Bytes (pair s)) where
-  -- the last four flags
-  abbrev service : List ℕ
-  service = s .«in_service» ∷ s .serving ∷ s .«latch_full» ∷ s .latch ∷ []
-
-  abbrev last : Bytes service
-  last = fits .1 .1 .1 .1
-
-  fields-told : (ms : List ℕ) → Clear (flags s) (fourMasks ms) → pairTest s ≡ true → s .«in_service» ≤ 1 → s .serving ≤ 3 → s .«latch_full» ≤ 1 → Fields s
-  unfolding joined
-  fields-told ms c e i n f =
-      let p = clear (pair s) pairMasks both pair-bytes (eqb-true _ _ e) in
-      record {
-        tc = to15 _ (fits .0) .told (c .0);
-        request = to15 _ (fits .1 .0) .told (c .1 .0);
-        mask = to15 _ (fits .1 .1 .0) .told (c .1 .1 .0);
-        pins = to15 _ (fits .1 .1 .1 .0) .told (c .1 .1 .1 .0);
-        flipFlop = to1 _ (both .1 .0) .told (p .1 .0);
-        inService = i;
-        latchFull = f;
-        lowest = to3 _ (both .0) .told (p .0);
-        serving = n;
-      }
-
-  module _ (f : Fields s) where
-    fields-clear : (ms : List ℕ) → Clear service ms → Clear (flags s) (fourMasks ms)
-    fields-clear ms c =
-        (to15 _ (fits .0) .holds (f .tc), (to15 _ (fits .1 .0) .holds (f .request), (to15 _ (fits .1 .1 .0) .holds (f .mask), (to15 _ (fits .1 .1 .1 .0) .holds (f .pins), c))))
-
-    pair-clear : pairTest s ≡ true
-    unfolding joined
-    pair-clear = eq-eqb _ _ (cleared (pair s) pairMasks both pair-bytes (to3 _ (both .0) .holds (f .lowest), (to1 _ (both .1 .0) .holds (f .flipFlop), tt)))
-
-  module _ (m : modesValid s ≡ true) where
-    pub idle-told : idleTest s ≡ true → valid s ≡ true
-    unfolding joined
-    idle-told e =
-        let p : pairTest s ≡ true = and-right (idleFlags s) (pairTest s) e in
-        let c = clear (flags s) (fourMasks idleMasks) fits idle-bytes (eqb-true _ _ (and-left (idleFlags s) (pairTest s) e)) in
-        let i : s .«in_service» ≤ 0 = to0 _ (last .0) .told (c .1 .1 .1 .1 .0) in
-        let n : s .serving ≤ 0 = to0 _ (last .1 .0) .told (c .1 .1 .1 .1 .1 .0) in
-        let f : s .«latch_full» ≤ 0 = to0 _ (last .1 .1 .0) .told (c .1 .1 .1 .1 .1 .1 .0) in
-        let l : s .latch ≤ 0 = to0 _ (last .1 .1 .1 .0) .told (c .1 .1 .1 .1 .1 .1 .1 .0) in
-        of-ranges s (record {
-          mode = modes-of s m;
-          fields = fields-told idleMasks c p (omega arith) (omega arith) (omega arith);
-          rest = λ e. (omega arith, omega arith);
-          latch = λ e. omega arith;
-        })
-
-    idle-holds : Ranges s → s .«in_service» ≡ 0 → idleTest s ≡ true
-    unfolding joined
-    idle-holds r i =
-        let y = r .rest i in
-        let c : Clear service idleMasks = (to0 _ (last .0) .holds (omega arith), (to0 _ (last .1 .0) .holds (omega (arith, y .0)), (to0 _ (last .1 .1 .0) .holds (omega (arith, y .1)), (to0 _ (last .1 .1 .1 .0) .holds (omega (arith, r .latch (y .1))), tt)))) in
-        simp (eq-eqb _ _ (cleared (flags s) (fourMasks idleMasks) fits idle-bytes (fields-clear (r .fields) idleMasks c)), pair-clear (r .fields))
-
-    -- a latch that is full, or empty and zero
-    latch-told : (f l : ℕ) → eqb f 1 || eqb l 0 ≡ true → f ≡ 0 → l ≡ 0
-    latch-told f l e z = eqb-true _ _ (rw z at e)
-
-    open-told : openTest s ≡ true → valid s ≡ true
-    unfolding joined
-    open-told e =
-        let a = and-left (openFields s && eqb (s .«in_service») 1) (latchTest s) e in
-        let b = and-left (openFields s) (eqb (s .«in_service») 1) a in
-        let i : s .«in_service» ≡ 1 = eqb-true _ _ (and-right (openFields s) (eqb (s .«in_service») 1) a) in
-        let c = clear (flags s) (fourMasks openMasks) fits open-bytes (eqb-true _ _ (and-left (openFlags s) (pairTest s) b)) in
-        of-ranges s (record {
-          mode = modes-of s m;
-          fields = fields-told openMasks c (and-right (openFlags s) (pairTest s) b) (omega arith) (to3 _ (last .1 .0) .told (c .1 .1 .1 .1 .1 .0)) (to1 _ (last .1 .1 .0) .told (c .1 .1 .1 .1 .1 .1 .0));
-          rest = λ z. absurd (omega arith);
-          latch = latch-told _ _ (and-right (openFields s && eqb (s .«in_service») 1) (latchTest s) e);
-        })
-
-    latch-holds : (f l : ℕ) → f ≤ 1 → (f ≡ 0 → l ≡ 0) → eqb f 1 || eqb l 0 ≡ true
-    latch-holds zero l h g = eq-eqb _ _ (g refl)
-    latch-holds (suc zero) l h g = refl
-    latch-holds (suc (suc f)) l h g = absurd (omega arith)
-
-    open-holds : Ranges s → s .«in_service» ≡ 1 → openTest s ≡ true
-    unfolding joined
-    open-holds r i =
-        let f = r .fields in
-        let c : Clear service openMasks = (to1 _ (last .0) .holds (f .inService), (to3 _ (last .1 .0) .holds (f .serving), (to1 _ (last .1 .1 .0) .holds (f .latchFull), (and-zero-r (s .latch), tt)))) in
-        simp (eq-eqb _ _ (cleared (flags s) (fourMasks openMasks) fits open-bytes (fields-clear f openMasks c)), pair-clear f, eq-eqb _ _ i) (latch-holds _ _ (f .latchFull) (r .latch))
-
-    -- a state that isn't idle and in its ranges is in them where it is in service so
-    pub open-is : idleTest s ≡ false → openTest s ≡ valid s
-    open-is e = go (openTest s) (valid s) refl refl
-      where
-        go : (t v : Bool) → openTest s ≡ t → valid s ≡ v → openTest s ≡ valid s
-        go true v p q = p ∙ sym (open-told p)
-        go false false p q = p ∙ sym q
-        go false true p q = in-service (eqb (s .«in_service») 0) refl
-          where
-            in-service : (z : Bool) → eqb (s .«in_service») 0 ≡ z → openTest s ≡ valid s
-            in-service true z = never (sym (idle-holds (ranges s q) (eqb-true _ _ z)) ∙ e)
-            in-service false z = open-holds (ranges s q) (omega (arith, ranges s q .fields .inService, eqb-false (s .«in_service») 0 z)) ∙ sym q
+pub fields : (s : Controller) → valid s ≡ true → Fields s
+fields s e = ranges s e .fields

@@ -1,5 +1,4 @@
 -- What an accepted call tells, and what an outcome's answer says.
--- Assumes nothing.
 use Prim.Native.Nat.{ℕ, _%_, _≤_}
 use mathlib.Core.Path.{_≡_, refl, sym, _∙_}
 use mathlib.Core.Bool.{Bool, true, false}
@@ -11,7 +10,7 @@ use Rattle.words.specs.Choice.{when}
 use Rattle.words.specs.Grounds.{first}
 use Rattle.am9517.specs.Ranges.{valid}
 use Rattle.am9517.specs.Refusals.{refusal, readGrounds, pinsGrounds}
-use Rattle.am9517.specs.Answers.{numberOf, outcome}
+use Rattle.am9517.specs.Answers.{refusalNumber, outcome}
 use Rattle.am9517.specs.declared.Controller.{Controller}
 use Rattle.am9517.specs.declared.Answer.{Answer}
 use Rattle.am9517.specs.declared.Answer.the-variants.{Refused}
@@ -29,11 +28,11 @@ pins-fit s p e =
     mod-eq-of-lt {n = p} {m = 256} (omega arith)
 
 -- the number that an outcome's answer says is the refusal's own
-told-by : (n : ℕ) (told : Answer) (t : Bool) → eqb n 0 ≡ t → numberOf told ≡ 0 → numberOf (when t told (Refused n)) ≡ n
+told-by : (n : ℕ) (told : Answer) (t : Bool) → eqb n 0 ≡ t → refusalNumber told ≡ 0 → refusalNumber (when t told (Refused n)) ≡ n
 unfolding when
 told-by n told true e h = h ∙ sym (eqb-true _ _ e)
 told-by n told false e h = refl
 
-pub number-told : (n : ℕ) (was next : Controller) (told : Answer) → numberOf told ≡ 0 → numberOf (outcome n was next told .answer) ≡ n
+pub number-told : (n : ℕ) (was next : Controller) (told : Answer) → refusalNumber told ≡ 0 → refusalNumber (outcome n was next told .answer) ≡ n
 unfolding outcome
 number-told n was next told h = told-by n told (eqb n 0) refl h

@@ -1,5 +1,4 @@
 -- Which registers an accepted access names, and what it does to an address or a count.
--- Assumes nothing.
 use Prim.Native.Nat.{ℕ, _+_, _≤_}
 use mathlib.Core.Path.{_≡_, refl}
 use mathlib.Core.Bool.{Bool, true, false, not, _&&_}

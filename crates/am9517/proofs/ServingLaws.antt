@@ -1,5 +1,4 @@
 -- Who may be served, told of sets of four bits.
--- Assumes nothing.
 use Prim.Native.Nat.{ℕ, zero, suc, _+_, _-_, _*_, _%_, _^_, _≤_, _<_, min, max}
 use mathlib.Core.Path.{_≡_, refl, sym, ap, ap₂, _∙_}
 use mathlib.Core.Bool.{Bool, true, false, not, _&&_, _||_}
@@ -13,13 +12,13 @@ use Rattle.words.specs.Grounds.{_if_, first}
 use Rattle.words.specs.Bits.{bit}
 use Rattle.words.proofs.ChoiceLaws.{when-both, when-le}
 use Rattle.words.proofs.BitLaws.{bit-and, bit-or}
-use Rattle.am9517.specs.State.{channel}
+use Rattle.am9517.specs.Fields.{channel}
 use Rattle.am9517.specs.Modes.{disabled, activeLow, isBlock}
 use Rattle.am9517.specs.Serving.{active, requestCounts, requests, entitled, setOf, lastAsked, asked, entitledSet, pickedFrom, picked}
-use Rattle.am9517.specs.Sets.{linesOf, blocksOf, entitledOf}
+use Rattle.am9517.specs.ClosedSets.{linesOf, blocksOf, entitledOf}
 use Rattle.am9517.specs.declared.Controller.{Controller}
-use Rattle.am9517.proofs.StateLaws.{below4}
-use Rattle.am9517.proofs.TestLaws.{every, every-told, same, same-told}
+use Rattle.am9517.proofs.RangeLaws.{below4}
+use Rattle.am9517.proofs.ModeLaws.{every, every-told, same, same-told}
 
 -- what a test weighs is 0 or its weight
 weighs : (t : Bool) (w : ℕ) → when t w 0 ≡ w * when t 1 0

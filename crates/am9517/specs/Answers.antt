@@ -2,7 +2,8 @@
 use Prim.Native.Nat.{ℕ}
 use lib.Dec.{eqb}
 use Rattle.words.specs.Choice.{when}
-use Rattle.am9517.specs.State.{put, cleared, Pins}
+use Rattle.am9517.specs.State.{cleared}
+use Rattle.am9517.specs.Fields.{put, Pins}
 use Rattle.am9517.specs.Serving.{picked, granted}
 use Rattle.am9517.specs.Registers.{afterWrite, value, afterRead}
 use Rattle.am9517.specs.Refusals.{refusal, writeGrounds, readGrounds, pinsGrounds, resetGrounds, grantGrounds}
@@ -12,10 +13,10 @@ use Rattle.am9517.specs.declared.Answer.the-variants.{Done, Value, Refus
 use Rattle.am9517.specs.declared.Outcome.{Outcome}
 
 -- the refusal number of each answer, 0 for none; a Value is the byte read or the channel granted
-abbrev pub numberOf : Answer → ℕ
-numberOf Done = 0
-numberOf (Value v) = 0
-numberOf (Refused n) = n
+abbrev pub refusalNumber : Answer → ℕ
+refusalNumber Done = 0
+refusalNumber (Value v) = 0
+refusalNumber (Refused n) = n
 
 -- refused by n: the paper's number, and the state as it was; or, with n zero, the next state and what is told of it
 unfoldable pub outcome : ℕ → Controller → Controller → Answer → Outcome

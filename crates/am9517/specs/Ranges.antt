@@ -3,7 +3,7 @@ use Prim.Native.Nat.{ℕ, _%_}
 use mathlib.Core.Bool.{Bool, not, _&&_, _||_}
 use lib.Dec.{leb, eqb}
 use Rattle.words.specs.Choice.{_and_}
-use Rattle.am9517.specs.State.{channel}
+use Rattle.am9517.specs.Fields.{channel}
 use Rattle.am9517.specs.Modes.{modeRefused}
 use Rattle.am9517.specs.declared.Controller.{Controller}
 

@@ -7,7 +7,8 @@ use Rattle.words.specs.Choice.{when}
 use Rattle.words.specs.Grounds.{_if_, first}
 use Rattle.words.specs.Bits.{bit, withBit}
 use Rattle.words.specs.Bytes.{byteOf, withByte}
-use Rattle.am9517.specs.State.{channel, withChannel, put, cleared, Command, Tc, Request, Mask, FlipFlop}
+use Rattle.am9517.specs.State.{cleared}
+use Rattle.am9517.specs.Fields.{channel, withChannel, put, Command, Tc, Request, Mask, FlipFlop}
 use Rattle.am9517.specs.Serving.{status}
 use Rattle.am9517.specs.declared.Channel.{Channel}
 use Rattle.am9517.specs.declared.Controller.{Controller}

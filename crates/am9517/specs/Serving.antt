@@ -6,7 +6,7 @@ use lib.Dec.{eqb}
 use Rattle.words.specs.Choice.{when}
 use Rattle.words.specs.Grounds.{_if_, first}
 use Rattle.words.specs.Bits.{bit}
-use Rattle.am9517.specs.State.{channel, put, Lowest, InService, Serving, LatchFull, Latch}
+use Rattle.am9517.specs.Fields.{channel, put, Lowest, InService, Serving, LatchFull, Latch}
 use Rattle.am9517.specs.Modes.{disabled, rotating, isBlock}
 use Rattle.am9517.specs.declared.Controller.{Controller}
 

@@ -4,7 +4,7 @@ use crate::modes::mode_refused;
 ghost use mathlib.Core.Path.{_≡_};
 ghost use mathlib.Core.List.{[], _∷_};
 ghost use Rattle.am9517.specs.Ranges.{modesValid, valid};
-ghost use Rattle.am9517.specs.Masks.{joined, flagsOf, pairOf};
+ghost use Rattle.am9517.specs.ClosedMasks.{joined, flagsOf, pairOf};
 
 // Four bytes as one number.
 fn quad(first: u8, second: u8, third: u8, fourth: u8) -> u64

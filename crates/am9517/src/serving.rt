@@ -10,13 +10,13 @@ use words::choice::when;
 ghost use mathlib.Core.Path.{_≡_};
 ghost use Prim.Native.Nat.{_+_, _≤_};
 ghost use Rattle.words.specs.Choice.{when};
-ghost use Rattle.am9517.specs.State.{channel};
+ghost use Rattle.am9517.specs.Fields.{channel};
 ghost use Rattle.am9517.specs.Modes.{isBlock};
 ghost use Rattle.am9517.specs.Serving.{active, setOf, status, asked, entitledSet, pickedFrom, picked, granted};
-ghost use Rattle.am9517.specs.Sets.{linesOf, blocksOf, entitledOf};
+ghost use Rattle.am9517.specs.ClosedSets.{linesOf, blocksOf, entitledOf};
 
 // Four bits: the weight of each that is set.
-fn four(first: bool, second: bool, third: bool, fourth: bool) -> u8
+fn set_of(first: bool, second: bool, third: bool, fourth: bool) -> u8
     ensures { λ r. ⌜ r ≡ when first 1 0 + when second 2 0 + when third 4 0 + when fourth 8 0 ⌝ }
 {
     when(first, 1, 0) + when(second, 2, 0) + when(third, 4, 0) + when(fourth, 8, 0)
@@ -71,7 +71,7 @@ impl Controller {
     fn block_set(self) -> u8
         ensures { λ r. ⌜ r ≡ setOf (λ n. isBlock (channel self n .mode)) ⌝ }
     {
-        four(
+        set_of(
             is_block(self.channels[0].mode),
             is_block(self.channels[1].mode),
             is_block(self.channels[2].mode),

@@ -1,5 +1,4 @@
 -- The worked cases hold of the rules: past the tests of lengths each is computed, the two whole ones by the closed form of a service.
--- Assumes nothing.
 use Prim.Native.Nat.{ℕ, suc, _-_, _<_}
 use mathlib.Core.Path.{_≡_, refl, sym, ap, subst, _∙_}
 use mathlib.Core.Bool.{Bool, true, false, not}
@@ -13,7 +12,8 @@ use Rattle.words.specs.Grounds.{first}
 use Rattle.words.specs.Bits.{withBit}
 use Rattle.words.specs.Bytes.{byteOf, withByte}
 use Rattle.words.specs.Steps.{stride, step, steps}
-use Rattle.am9517.specs.State.{fresh, make, put, but, blank, Field, Command, Pins, Lowest}
+use Rattle.am9517.specs.State.{fresh}
+use Rattle.am9517.specs.Fields.{make, put, but, blank, Field, Command, Pins, Lowest}
 use Rattle.am9517.specs.declared.Channel.{Channel}
 use Rattle.am9517.specs.declared.Answer.{Answer}
 use Rattle.am9517.specs.declared.Answer.the-variants.{Value}
@@ -23,28 +23,29 @@ use Rattle.am9517.specs.Serving.{active, requestCounts, requests, entitled, set
 use Rattle.am9517.specs.Refusals.{refusal, idle, busy}
 use Rattle.am9517.specs.Answers.{outcome, grantOf}
 use Rattle.am9517.specs.declared.Controller.{Controller}
-use Rattle.service.specs.World.{Stop, stop, startOf, withController, memoryToMemory}
-use Rattle.service.specs.Stops.{dropped, short, stops}
-use Rattle.service.specs.States.{pace, needsS1, cost}
-use Rattle.service.specs.Transfer.{moved}
-use Rattle.service.specs.Copy.{copied}
-use Rattle.service.specs.Ends.{counting, finished, afterTcOrEop, single}
-use Rattle.service.specs.Run.{transferred, runOf}
-use Rattle.service.specs.Answers.{given, stopped, refusedOf, wrongSize, runGrounds, ranOf}
+use Rattle.am9517_service.specs.World.{Stop, stop, startOf, withController, memoryToMemory}
+use Rattle.am9517_service.specs.Stops.{dropped, short, stops}
+use Rattle.am9517_service.specs.States.{pace, needsS1, cost}
+use Rattle.am9517_service.specs.Transfer.{moved}
+use Rattle.am9517_service.specs.Copy.{copied}
+use Rattle.am9517_service.specs.Ends.{counting, finished, afterTcOrEop, single}
+use Rattle.am9517_service.specs.Run.{transferred, runOf}
+use Rattle.am9517_service.specs.Answers.{given, stopped, refusedOf, wrongSize, runGrounds, ranOf}
 use Rattle.words.specs.Spans.{least}
-use Rattle.service.specs.Legs.{untilEnd, stockOf, along, onward, entered, statesOf, travelled, reached}
-use Rattle.service.specs.declared.Reason.the-variants.{Ended}
-use Rattle.sheet.specs.Bytes.{total}
-use Rattle.sheet.specs.Body.{bodyOf, stateOf}
-use Rattle.sheet.specs.Sheet.{answerOf}
+use Rattle.am9517_service.specs.ClosedLegs.{addressAfter, currentAfter, entered, statesOf, travelled, reached}
+use Rattle.am9517_service.specs.ClosedSpans.{untilEnd, stockOf}
+use Rattle.am9517_service.specs.declared.Reason.the-variants.{Ended}
+use Rattle.am9517_sheet.specs.Bytes.{total}
+use Rattle.am9517_sheet.specs.Body.{bodyOf, stateOf}
+use Rattle.am9517_sheet.specs.Sheet.{answerOf}
 use Rattle.demands.specs.Lists.{All, none, also}
 use Rattle.demands.specs.Operations.{Grant, Run, Round, SheetWriting, SheetReading, next, afterAll, said}
 use Rattle.demands.specs.Fairness.{Granted, told, grants, channels, Contends}
-use Rattle.demands.specs.Cases.{Holds, services, setUp, idleWith, ch, ends, proved, whole, limits, WorkedCases, Tight, p5, p6}
+use Rattle.demands.specs.Cases.{Holds, services, setUp, idleWith, ch, proved, whole, limits, WorkedCases, Tight, p5, p6}
 use Rattle.words.proofs.ChoiceLaws.{when-hit, never}
-use Rattle.service.proofs.AnswerLaws.{run-accepted}
-use Rattle.service.proofs.ServiceLaws.{run-ends}
-use Rattle.sheet.proofs.SheetLaws.{number-said}
+use Rattle.am9517_service.proofs.AnswerLaws.{run-accepted}
+use Rattle.am9517_service.proofs.LegRunLaws.{run-ends}
+use Rattle.am9517_sheet.proofs.SheetLaws.{number-said}
 use Rattle.demands.proofs.Refusals.{ran-told, round-told}
 
 run-free : (s : Controller) (m : List ℕ) → valid s ≡ true → eqb (s .«in_service») 0 ≡ false → length m ≡ 65536 → refusal (runGrounds s m) ≡ 0
@@ -166,7 +167,7 @@ module _ (a : ℕ) (below : a < 65536) (m : List ℕ) where
 whole-cases : All Holds whole
 unfolding
     when _and_ first withBit stride steps modeValid modesValid fieldsValid serviceValid valid active requestCounts entitled setOf pickedFrom picked granted refusal outcome
-    pace needsS1 finished along onward entered statesOf travelled reached stopped
+    pace needsS1 finished addressAfter currentAfter entered statesOf travelled reached stopped
 whole-cases =
     also (λ m h. ran-whole _ m [] 0 refl refl h ∙ ap stopped (whole-run 0 (omega arith) m) ∙ refl)
     (also (λ m h. ran-whole _ m [] 0 refl refl h ∙ ap stopped (whole-run 1 (omega arith) m) ∙ refl) none)

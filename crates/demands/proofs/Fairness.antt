@@ -1,5 +1,4 @@
 -- Demand 3: the pick takes nobody who stands behind an entitled channel, and nothing but a grant moves the lowest.
--- Assumes nothing.
 use Prim.Native.Nat.{ℕ, zero, suc, _+_, _%_, _≤_, _<_}
 use mathlib.Core.Path.{_≡_, refl, _∙_, ap}
 use mathlib.Core.Bool.{Bool, true, false}
@@ -18,17 +17,17 @@ use Rattle.am9517.specs.Answers.{outcome}
 use Rattle.am9517.specs.declared.Controller.{Controller}
 use Rattle.am9517.specs.declared.Answer.{Answer}
 use Rattle.am9517.specs.declared.Answer.the-variants.{Value, Refused}
-use Rattle.service.specs.World.{Stop, startOf}
-use Rattle.service.specs.Answers.{Given, stopped, ranOf, runGrounds}
+use Rattle.am9517_service.specs.World.{Stop, startOf}
+use Rattle.am9517_service.specs.Answers.{Given, stopped, ranOf, runGrounds}
 use Rattle.demands.specs.Lists.{All, also}
 use Rattle.demands.specs.Operations.{Op, Write, Read, Pins, Reset, Grant, Run, Round, SheetWriting, SheetReading, next}
 use Rattle.demands.specs.Fairness.{Traced, Granted, told, made, grants, channels, Contends, Demand3, LowestKept}
 use Rattle.words.proofs.ChoiceLaws.{when-both, when-hit, when-miss}
 use Rattle.words.proofs.GroundLaws.{passed}
-use Rattle.am9517.proofs.StateLaws.{ranges, fields}
+use Rattle.am9517.proofs.RangeLaws.{ranges, fields}
 use Rattle.am9517.proofs.ServingLaws.{picked-asked}
-use Rattle.service.proofs.AnswerLaws.{run-refused, run-accepted}
-use Rattle.service.proofs.KeepLaws.{run-left}
+use Rattle.am9517_service.proofs.AnswerLaws.{run-refused, run-accepted}
+use Rattle.am9517_service.proofs.KeepLaws.{run-left}
 use Rattle.demands.proofs.Turns.{place, Turns, over, then, turns-fair}
 
 -- what an accepted run has found

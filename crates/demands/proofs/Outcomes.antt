@@ -1,11 +1,10 @@
 -- Demand 2, one outcome: each contract is an equation of the answer and all that is lent, so two outcomes that meet it are equal.
--- Assumes nothing.
 use mathlib.Core.Path.{_≡_, refl, sym, ap, _∙_}
 use Prim.Native.Nat.{ℕ}
 use mathlib.Core.List.{List}
-use Rattle.service.specs.Answers.{Given}
-use Rattle.service.specs.RoundAnswers.{RoundGiven}
-use Rattle.sheet.specs.Sheet.{Stored}
+use Rattle.am9517_service.specs.Answers.{Given}
+use Rattle.am9517_service.specs.RoundAnswers.{RoundGiven}
+use Rattle.am9517_sheet.specs.Sheet.{Stored}
 use Rattle.demands.specs.Outcomes.{OneOutcome}
 
 -- two values that both equal a third

@@ -1,5 +1,4 @@
 -- Demand 3 for rounds: a round is its grants and runs.
--- Assumes nothing.
 use Prim.Native.Nat.{ℕ, zero, suc, _+_, _<_}
 use mathlib.Core.Path.{_≡_, refl, sym, _∙_, ap}
 use mathlib.Core.Bool.{Bool, true, false, not}
@@ -17,24 +16,24 @@ use Rattle.am9517.specs.Refusals.{refusal}
 use Rattle.am9517.specs.declared.Controller.{Controller}
 use Rattle.am9517.specs.declared.Outcome.{Outcome}
 use Rattle.am9517.specs.declared.Answer.{Answer}
-use Rattle.service.specs.declared.Reason.{Reason}
-use Rattle.service.specs.declared.Reason.the-variants.{Ended, Dropped, Cascade, Limit, Short}
-use Rattle.service.specs.World.{startOf}
-use Rattle.service.specs.Answers.{Given, stopped}
-use Rattle.service.specs.Round.{Course, Close, beginning, nobody, runNext, withRun, afterNext, isEnded, roundOf}
-use Rattle.service.specs.RoundAnswers.{RoundGiven, closed, roundGrounds, roundedOf}
+use Rattle.am9517_service.specs.declared.Reason.{Reason}
+use Rattle.am9517_service.specs.declared.Reason.the-variants.{Ended, Dropped, Cascade, Limit, Short}
+use Rattle.am9517_service.specs.World.{startOf}
+use Rattle.am9517_service.specs.Answers.{Given, stopped}
+use Rattle.am9517_service.specs.Round.{Course, Close, beginning, nobody, runNext, withRun, afterNext, isEnded, roundOf}
+use Rattle.am9517_service.specs.RoundAnswers.{RoundGiven, closed, roundGrounds, roundedOf}
 use Rattle.demands.specs.Lists.{All, none, also, count}
 use Rattle.demands.specs.Operations.{Op, Write, Read, Pins, Reset, Grant, Run, Round, SheetWriting, SheetReading, next, afterAll}
 use Rattle.demands.specs.Fairness.{Traced, told, grants, channels, Fair}
 use Rattle.demands.specs.Rounds.{callsFrom, calls, IsCalls, RoundIsCalls, Demand3OfRounds, callsOf, spelled, TracedOrRound, Demand3WithRounds}
 use Rattle.words.proofs.ChoiceLaws.{when-both, when-hit, when-miss, never}
-use Rattle.am9517.proofs.StateLaws.{ranges, of-ranges, below4}
+use Rattle.am9517.proofs.RangeLaws.{ranges, of-ranges, below4}
 use Rattle.am9517.proofs.KeepLaws.{granted-kept}
-use Rattle.service.proofs.AnswerLaws.{run-accepted}
-use Rattle.service.proofs.KeepLaws.{Counted, run-counted, Left, run-left}
+use Rattle.am9517_service.proofs.AnswerLaws.{run-accepted}
+use Rattle.am9517_service.proofs.KeepLaws.{Counted, run-counted, Left, run-left}
 use Rattle.am9517.proofs.ServingLaws.{picked-most}
-use Rattle.service.proofs.GrantLaws.{granted-open, granted-runs, grant-some}
-use Rattle.service.proofs.RollLaws.{round-accepted, round-open}
+use Rattle.am9517_service.proofs.GrantLaws.{granted-open, granted-runs, grant-some}
+use Rattle.am9517_service.proofs.RoundLaws.{round-accepted, round-open}
 use Rattle.demands.proofs.Turns.{Turns, over, then}
 use Rattle.demands.proofs.Fairness.{turns-of, demand-3}
 use Rattle.demands.proofs.Refusals.{round-refused}

@@ -3,17 +3,18 @@ use Prim.Native.Nat.{ℕ, zero, suc}
 use mathlib.Core.Path.{_≡_}
 use mathlib.Core.List.{List, [], _∷_, _++_}
 use lib.ListN.{length, getD, set}
-use Rattle.am9517.specs.State.{fresh, make, put, blank, but, Field, Command, Tc, Mask, Temporary, Pins, Lowest}
+use Rattle.am9517.specs.State.{fresh}
+use Rattle.am9517.specs.Fields.{make, put, blank, but, Field, Command, Tc, Mask, Temporary, Pins, Lowest}
 use Rattle.am9517.specs.Answers.{readOf}
 use Rattle.am9517.specs.declared.Channel.{Channel}
 use Rattle.am9517.specs.declared.Controller.{Controller}
 use Rattle.am9517.specs.declared.Answer.the-variants.{Value}
-use Rattle.service.specs.declared.Reason.the-variants.{Ended}
-use Rattle.service.specs.declared.RunAnswer.the-variants.{Stopped}
-use Rattle.service.specs.Counts.{counts}
-use Rattle.service.specs.Answers.{Given, given, ranOf}
-use Rattle.sheet.specs.declared.forms.Form.the-variants.{One}
-use Rattle.sheet.specs.Sheet.{sheetOf}
+use Rattle.am9517_service.specs.declared.Reason.the-variants.{Ended}
+use Rattle.am9517_service.specs.declared.RunAnswer.the-variants.{Stopped}
+use Rattle.am9517_service.specs.Counts.{counts}
+use Rattle.am9517_service.specs.Answers.{Given, given, ranOf}
+use Rattle.am9517_sheet.specs.declared.forms.Form.the-variants.{One}
+use Rattle.am9517_sheet.specs.Sheet.{sheetOf}
 use Rattle.demands.specs.Lists.{All}
 use Rattle.demands.specs.Operations as op
 use Rattle.demands.specs.Operations.{Op, Write, Read, Grant, Run, Round, SheetWriting, SheetReading, afterAll, said}

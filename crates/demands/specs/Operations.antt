@@ -1,13 +1,13 @@
 -- The public operations with their arguments: what each is lent, what it leaves, and what it says. Each by the definition that its contract cites.
 use Prim.Native.Nat.{ℕ}
 use mathlib.Core.List.{List, [], _∷_, _++_}
-use Rattle.am9517.specs.Answers.{numberOf, writeOf, readOf, pinsOf, resetOf, grantOf}
+use Rattle.am9517.specs.Answers.{refusalNumber, writeOf, readOf, pinsOf, resetOf, grantOf}
 use Rattle.am9517.specs.declared.Controller.{Controller}
-use Rattle.service.specs.declared.Counts.{Counts}
-use Rattle.service.specs.Answers.{Given, runNumberOf, ranOf}
-use Rattle.service.specs.RoundAnswers.{RoundGiven, roundNumberOf, roundedOf}
-use Rattle.sheet.specs.declared.forms.Form.the-variants.{One}
-use Rattle.sheet.specs.Sheet.{sheetNumberOf, sheetWriteOf, sheetReadOf}
+use Rattle.am9517_service.specs.declared.Counts.{Counts}
+use Rattle.am9517_service.specs.Answers.{Given, runRefusalNumber, ranOf}
+use Rattle.am9517_service.specs.RoundAnswers.{RoundGiven, roundRefusalNumber, roundedOf}
+use Rattle.am9517_sheet.specs.declared.forms.Form.the-variants.{One}
+use Rattle.am9517_sheet.specs.Sheet.{sheetRefusalNumber, sheetWriteOf, sheetReadOf}
 
 pub data Op : Type 0 where
   -- register, byte
@@ -76,15 +76,15 @@ afterAll s (op ∷ ops) = afterAll (next s op) ops
 
 -- the refusal number that the answer says, 0 for none
 abbrev pub said : Controller → Op → ℕ
-said s (Write r b) = numberOf (writeOf s r b .answer)
-said s (Read r) = numberOf (readOf s r .answer)
-said s (Pins p) = numberOf (pinsOf s p .answer)
-said s Reset = numberOf (resetOf s .answer)
-said s Grant = numberOf (grantOf s .answer)
-said s (Run m d r limit eop) = runNumberOf (ranOf s m d r limit eop .ran .answer)
-said s (Round m d r k) = roundNumberOf (roundedOf s m d r k .rounded .answer)
-said s (SheetWriting out) = sheetNumberOf (sheetWriteOf One s out .answer)
-said s (SheetReading bytes) = sheetNumberOf (sheetReadOf One s bytes .answer)
+said s (Write r b) = refusalNumber (writeOf s r b .answer)
+said s (Read r) = refusalNumber (readOf s r .answer)
+said s (Pins p) = refusalNumber (pinsOf s p .answer)
+said s Reset = refusalNumber (resetOf s .answer)
+said s Grant = refusalNumber (grantOf s .answer)
+said s (Run m d r limit eop) = runRefusalNumber (ranOf s m d r limit eop .ran .answer)
+said s (Round m d r k) = roundRefusalNumber (roundedOf s m d r k .rounded .answer)
+said s (SheetWriting out) = sheetRefusalNumber (sheetWriteOf One s out .answer)
+said s (SheetReading bytes) = sheetRefusalNumber (sheetReadOf One s bytes .answer)
 
 abbrev pub listed : Counts → List ℕ
 listed n = n .transfers ∷ n .used ∷ n .written ∷ n .states ∷ []

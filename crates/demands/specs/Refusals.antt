@@ -2,16 +2,16 @@
 use Prim.Native.Nat.{ℕ}
 use mathlib.Core.Path.{_≡_}
 use mathlib.Core.Bool.{true, false}
-use mathlib.Core.List.{List, [], _∷_}
+use mathlib.Core.List.{List, _∷_}
 use mathlib.Core.Logic.{_↔_}
 use lib.ListN.{length}
 use Rattle.words.specs.Grounds.{Ground}
 use Rattle.am9517.specs.Refusals.{writeGrounds, readGrounds, pinsGrounds, resetGrounds, grantGrounds}
 use Rattle.am9517.specs.declared.Controller.{Controller}
-use Rattle.service.specs.Answers.{runGrounds}
-use Rattle.service.specs.RoundAnswers.{roundGrounds}
-use Rattle.sheet.specs.declared.forms.Form.the-variants.{One}
-use Rattle.sheet.specs.Sheet.{sheetWriteGrounds, sheetReadGrounds}
+use Rattle.am9517_service.specs.Answers.{runGrounds}
+use Rattle.am9517_service.specs.RoundAnswers.{roundGrounds}
+use Rattle.am9517_sheet.specs.declared.forms.Form.the-variants.{One}
+use Rattle.am9517_sheet.specs.Sheet.{sheetWriteGrounds, sheetReadGrounds}
 use Rattle.demands.specs.Lists.{All}
 use Rattle.demands.specs.Operations.{Op, Write, Read, Pins, Reset, Grant, Run, Round, SheetWriting, SheetReading, before, after, said, counts}
 

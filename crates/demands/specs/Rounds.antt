@@ -9,8 +9,8 @@ use Rattle.words.specs.Choice.{when}
 use Rattle.words.specs.Grounds.{_if_, first}
 use Rattle.am9517.specs.Refusals.{refusal}
 use Rattle.am9517.specs.declared.Controller.{Controller}
-use Rattle.service.specs.Round.{Course, beginning, nobody, runNext, afterNext, isEnded}
-use Rattle.service.specs.RoundAnswers.{roundGrounds, roundedOf}
+use Rattle.am9517_service.specs.Round.{Course, beginning, nobody, runNext, afterNext, isEnded}
+use Rattle.am9517_service.specs.RoundAnswers.{roundGrounds, roundedOf}
 use Rattle.demands.specs.Lists.{All, count}
 use Rattle.demands.specs.Operations.{Op, Write, Read, Pins, Reset, Grant, Run, Round, SheetWriting, SheetReading, next, afterAll}
 use Rattle.demands.specs.Fairness.{Traced, grants, channels, Contends, Fair}

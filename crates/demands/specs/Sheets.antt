@@ -5,10 +5,10 @@ use mathlib.Core.List.{List, [], _∷_, _++_}
 use lib.ListN.{length, replicate}
 use Rattle.am9517.specs.State.{fresh}
 use Rattle.am9517.specs.declared.Controller.{Controller}
-use Rattle.sheet.specs.declared.SheetAnswer.the-variants.{Done}
-use Rattle.sheet.specs.declared.forms.Form.the-variants.{One}
-use Rattle.sheet.specs.Bytes.{OfBytes}
-use Rattle.sheet.specs.Sheet.{sheetOf, stored, sheetWriteOf, sheetReadOf}
+use Rattle.am9517_sheet.specs.declared.SheetAnswer.the-variants.{Done}
+use Rattle.am9517_sheet.specs.declared.forms.Form.the-variants.{One}
+use Rattle.am9517_sheet.specs.Bytes.{OfBytes}
+use Rattle.am9517_sheet.specs.Sheet.{sheetOf, stored, sheetWriteOf, sheetReadOf}
 
 -- Four channels and bytes below 256 are the types [Channel; 4] and [u8]: every controller and every slice has them.
 pub record RoundTrips : Type 0 where

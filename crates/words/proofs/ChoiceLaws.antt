@@ -1,5 +1,4 @@
 -- Laws of the choice and of two tests that both hold.
--- Assumes nothing.
 use Prim.Native.Nat.{ℕ, _≤_}
 use mathlib.Core.Path.{_≡_, refl}
 use mathlib.Core.Bool.{Bool, true, false}
@@ -30,12 +29,6 @@ pub when-same : {A : Type 0} (t : Bool) (a : A) → when t a a ≡ a
 unfolding when
 when-same true a = refl
 when-same false a = refl
-
--- a function of the one chosen is the one chosen of its values
-pub when-map : {A B : Type 0} (f : A → B) (t : Bool) (a b : A) → f (when t a b) ≡ when t (f a) (f b)
-unfolding when
-when-map f true a b = refl
-when-map f false a b = refl
 
 pub record Both (a b : Bool) : Type 0 where
   pub left : a ≡ true

@@ -1,5 +1,4 @@
 -- The tail of a slice that is lent on: what it is, and what the whole is when it is back.
--- Assumes nothing.
 use Prim.Native.Nat.{ℕ, _-_}
 use mathlib.Core.Path.{_≡_, sym, ap, _∙_}
 use mathlib.Core.List.{List, [], _++_, append-nil}

@@ -1,5 +1,4 @@
 -- Addresses over the width: a stretch before they turn over, where they go on, and a stretch in two pieces.
--- Assumes nothing.
 use Prim.Native.Nat.{ℕ, suc, _+_, _-_, _*_, _%_, _^_, _≤_, _<_}
 use mathlib.Core.Path.{_≡_, refl, sym, ap, subst, _∙_}
 use mathlib.Core.Bool.{Bool, true, false}
@@ -10,7 +9,7 @@ use Rattle.words.specs.Choice.{when}
 use Rattle.words.specs.Steps.{step, steps, stride}
 use Rattle.words.specs.Spans.{least, placeOf, reachOf, wrappedTo, Within}
 use Rattle.words.proofs.ChoiceLaws.{never, when-both, when-each}
-use Rattle.words.proofs.StepLaws.{step-up-end, step-down-end, steps-on, steps-next, steps-none, steps-below}
+use Rattle.words.proofs.StepLaws.{step-up-end, step-down-end, steps-on, steps-next}
 use Rattle.words.proofs.BoundLaws.{least-left, least-right, least-below}
 
 module _ (down : Bool) (a n size : ℕ) (i : Within down a n size) (j : ℕ) (h : j < n) where
@@ -95,23 +94,10 @@ module _ (w : ℕ) where
 
   -- an address that is held, or steps
   module _ (down : Bool) (a : ℕ) where
-    pub held-none : a < 2 ^ w → (hold : Bool) → a ≡ when hold a (steps w down a 0)
-    unfolding when
-    held-none below true = refl
-    held-none below false = sym (steps-none w down a below)
-
-    pub held-next : (hold : Bool) (j x : ℕ) → x ≡ when hold a (steps w down a j) → when hold x (step w down x) ≡ when hold a (steps w down a (j + 1))
-    unfolding when
-    held-next true j x e = e
-    held-next false j x e = rw e (steps-next w down a j)
-
     pub held-on : (hold : Bool) (j i : ℕ) → when hold (when hold a (steps w down a j)) (steps w down (when hold a (steps w down a j)) i) ≡ when hold a (steps w down a (j + i))
     unfolding when
     held-on true j i = refl
     held-on false j i = steps-on w down a j i
-
-    pub held-below : a < 2 ^ w → (hold : Bool) (j : ℕ) → when hold a (steps w down a j) < 2 ^ w
-    held-below below hold j = when-both (λ (x : ℕ). x < 2 ^ w) hold below (steps-below w down a j)
 
 -- n addresses from a on: a first piece up to where they turn over, and the rest
 pub record Pieces (size : ℕ) (down : Bool) (a n first : ℕ) : Type 0 where

@@ -1,5 +1,4 @@
 -- Bytes put one after another: one more, the same places by other words, and a front and a rest.
--- Assumes nothing.
 use Prim.Native.Nat.{ℕ, zero, suc, _+_, _-_, _≤_, _<_}
 use mathlib.Core.Path.{_≡_, refl, sym, ap, _∙_}
 use mathlib.Core.Bool.{Bool, true, false}
@@ -22,10 +21,6 @@ module _ (to from : ℕ → ℕ) (src dst : List ℕ) where
   pub spread-more : (j a b : ℕ) → to j ≡ a → from j ≡ b → (l : List ℕ) → l ≡ spread to from src dst j → set l a (getD src b 0) ≡ spread to from src dst (j + 1)
   unfolding spread
   spread-more j a b ea eb l h = rw (h, ← ea, ← eb, add-one j)
-
-  pub spread-none : spread to from src dst 0 ≡ dst
-  unfolding spread
-  spread-none = refl
 
 -- the same places told by other functions
 pub spread-same : (to from to' from' : ℕ → ℕ) (src dst : List ℕ) (n : ℕ) → ((j : ℕ) → j < n → to j ≡ to' j) → ((j : ℕ) → j < n → from j ≡ from' j) → spread to from src dst n ≡ spread to' from' src dst n
@@ -66,10 +61,6 @@ module _ (to from : ℕ → ℕ) (m : List ℕ) where
   pub carried-more : (j a b : ℕ) → to j ≡ a → from j ≡ b → (l : List ℕ) → l ≡ carried to from m j → set l a (getD l b 0) ≡ carried to from m (j + 1)
   unfolding carried
   carried-more j a b ea eb l h = rw (h, ← ea, ← eb, add-one j)
-
-  pub carried-none : carried to from m 0 ≡ m
-  unfolding carried
-  carried-none = refl
 
   -- the byte moved last stands where it was put
   pub carried-last : (j : ℕ) → to j < length m → getD (carried to from m (suc j)) (to j) 0 ≡ getD (carried to from m j) (from j) 0

@@ -1,6 +1,6 @@
 -- The step of an address or a count by one, up or down, modulo 2 ^ w: stated once over the width w.
 use Prim.Native.Nat.{ℕ, _+_, _-_, _*_, _%_, _^_}
-use mathlib.Core.Bool.{Bool, true, false}
+use mathlib.Core.Bool.{Bool}
 use Rattle.words.specs.Choice.{when}
 
 -- what a step adds: one, or, going down, one less than the modulus

@@ -5,7 +5,9 @@ use Rattle.am9517.proofs.Controller.active_set.Statement.{statement}
 use Rattle.am9517.proofs.Controller.active_set.Tie as tie
 
 returns : tie.Need-returns
-returns c = simp (c .when .ensures, c .before .active-low .ensures) (active-set (c .before .before .before .args .self) (omega (arith, c .before .before .struct-known .given)))
+returns c =
+    let at-active-low = c .before in let at-struct-known = at-active-low .before in let entry = at-struct-known .before in
+    simp (c .when .ensures, at-active-low .active-low .ensures) (active-set (entry .args .self) (omega (arith, at-struct-known .struct-known .given)))
 
 pub active-set-spec : {M : Type 1} → statement M
 active-set-spec = tie.close (tie.spec (search needs) (search needs) (search needs) returns)

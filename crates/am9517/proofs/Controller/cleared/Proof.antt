@@ -2,8 +2,5 @@ use borrow.Author.Needs.{needs}
 use Rattle.am9517.proofs.Controller.cleared.Statement.{statement}
 use Rattle.am9517.proofs.Controller.cleared.Tie as tie
 
-returns : tie.Need-returns
-returns c = simp (c .ended .ensures)
-
 pub cleared-spec : {M : Type 1} → statement M
-cleared-spec = tie.close (tie.spec (search needs) returns)
+cleared-spec = tie.close (tie.spec (search needs) (λ c. simp (c .ended .ensures)))

@@ -12,15 +12,9 @@ returns c = simp (c .refused .ensures, sym (c .before .before .grant-refusal .en
 
 returns-2 : tie.Need-returns-2
 unfolding outcome when
-returns-2 c = simp (sym (c .before .before .grant-refusal .ensures), eq-eqb _ _ (c .before .if1 .left), c .granted .ensures, c .before .before .before .picked .ensures)
+returns-2 c =
+    let at-if1 = c .before in let at-grant-refusal = at-if1 .before in let at-picked = at-grant-refusal .before in
+    simp (sym (at-grant-refusal .grant-refusal .ensures), eq-eqb _ _ (at-if1 .if1 .left), c .granted .ensures, at-picked .picked .ensures)
 
 pub grant-spec : {M : Type 1} → statement M
-grant-spec =
-    tie.close
-    (tie.spec
-    (search needs)
-    (search needs)
-    (search needs)
-    returns
-    (search needs)
-    returns-2)
+grant-spec = tie.close (tie.spec (search needs) (search needs) (search needs) returns (search needs) returns-2)

@@ -1,5 +1,5 @@
 use native.Mathlib.Omega.{arith}
-use Rattle.am9517.specs.Masks.{joined}
+use Rattle.am9517.specs.ClosedMasks.{joined}
 use borrow.Author.Needs.{needs}
 use Rattle.am9517.proofs.Controller.pair.Statement.{statement}
 use Rattle.am9517.proofs.Controller.pair.Tie as tie

@@ -13,7 +13,9 @@ returns c = simp (c .refused .ensures, sym (c .before .before .pins-refusal .ens
 
 returns-2 : tie.Need-returns-2
 unfolding outcome when
-returns-2 c = let e = sym (c .before .pins-refusal .ensures) in simp (e, eq-eqb _ _ (c .if1 .left), pins-fit (c .before .before .args .self) (c .before .before .args .levels) (e ∙ c .if1 .left))
+returns-2 c =
+    let at-pins-refusal = c .before in let entry = at-pins-refusal .before in
+    let e = sym (at-pins-refusal .pins-refusal .ensures) in simp (e, eq-eqb _ _ (c .if1 .left), pins-fit (entry .args .self) (entry .args .levels) (e ∙ c .if1 .left))
 
 pub pins-spec : {M : Type 1} → statement M
 pins-spec = tie.close (tie.spec (search needs) (search needs) returns (search needs) returns-2)

@@ -13,12 +13,14 @@ use Rattle.am9517.specs.declared.Controller.{Controller}
 use Rattle.am9517.specs.declared.Outcome.{Outcome}
 use Rattle.am9517.proofs.RefusalLaws.{read-valid}
 use Rattle.am9517.proofs.RegisterLaws.{read-register, less, port-value, port-left}
-use Rattle.am9517.proofs.StateLaws.{fields}
+use Rattle.am9517.proofs.RangeLaws.{fields}
 use Rattle.am9517.proofs.Controller.read.Statement.{statement}
 use Rattle.am9517.proofs.Controller.read.Tie as tie
 
 status-requires : tie.Need-status-requires
-status-requires c κs = fields _ (read-valid (c .before .before .before .args .self) (c .before .before .before .args .reg) (sym (c .before .before .read-refusal .ensures) ∙ c .before .if1 .taken)) .tc
+status-requires c κs =
+    let at-if1 = c .before in let at-read-refusal = at-if1 .before in let entry = at-read-refusal .before in
+    fields _ (read-valid (entry .args .self) (entry .args .reg) (sym (at-read-refusal .read-refusal .ensures) ∙ at-if1 .if1 .taken)) .tc
 
 module _ (c : tie.After-answered) where
   abbrev s : Controller
@@ -58,16 +60,5 @@ returns c =
     (λ w. kept c (w .0 .left) (w .1)))) (c .before .if1 .came)
 
 pub read-spec : {M : Type 1} → statement M
-read-spec =
-    tie.close
-    (tie.spec
-    (search needs)
-    (search needs)
-    status-requires
-    (search needs)
-    (search needs)
-    (search needs)
-    (search needs)
-    (search needs)
-    (search needs)
-    returns)
+read-spec = tie.close (tie.spec (search needs) (search needs) status-requires (search needs) (search needs) (search needs) (search needs)
+    (search needs) (search needs) returns)

@@ -15,5 +15,4 @@ unfolding outcome when
 returns-2 c = simp (sym (c .before .before .reset-refusal .ensures), eq-eqb _ _ (c .before .if1 .left), c .cleared .ensures)
 
 pub reset-spec : {M : Type 1} → statement M
-reset-spec =
-    tie.close (tie.spec (search needs) (search needs) returns (search needs) returns-2)
+reset-spec = tie.close (tie.spec (search needs) (search needs) returns (search needs) returns-2)

@@ -4,8 +4,8 @@ use borrow.Author.Tests.{not-true, not-false}
 use borrow.Author.Needs.{needs}
 use Rattle.words.specs.Choice.{_and_}
 use Rattle.am9517.specs.Ranges.{valid}
-use Rattle.am9517.specs.Masks.{flags, pair}
-use Rattle.am9517.proofs.RangeLaws.{Bytes, idle-told, open-is}
+use Rattle.am9517.specs.ClosedMasks.{flags, pair}
+use Rattle.am9517.proofs.MaskLaws.{Bytes, idle-told, open-is}
 use Rattle.am9517.proofs.Controller.valid.Statement.{statement}
 use Rattle.am9517.proofs.Controller.valid.Tie as tie
 
@@ -23,22 +23,18 @@ pair-bytes c = (omega (arith, c .good), (omega (arith, c .good), tt))
 
 returns-2 : tie.Need-returns-2
 returns-2 c =
-    let s = c .before .before .before .before .before in
-    sym (idle-told (s .args .self) (flag-bytes s) (pair-bytes s) (sym (c .before .before .before .before .modes-valid .ensures) ∙ not-false (c .before .before .before .before .modes-valid .result) (c .before .before .before .if1 .left)) (rw (sym (c .before .before .flags .ensures), sym (c .before .pair .ensures)) (c .if2 .taken)))
+    let at-pair = c .before in let at-flags = at-pair .before in let at-if1 = at-flags .before in let at-modes-valid = at-if1 .before in
+    let at-that = at-modes-valid .before in
+    let s = at-that in
+    sym (idle-told (s .args .self) (flag-bytes s) (pair-bytes s) (sym (at-modes-valid .modes-valid .ensures) ∙ not-false (at-modes-valid .modes-valid .result) (at-if1 .if1 .left)) (rw (sym (at-flags .flags .ensures), sym (at-pair .pair .ensures)) (c .if2 .taken)))
 
 returns-3 : tie.Need-returns-3
 returns-3 c =
-    let s = c .before .before .before .before .before .before .before .before in
-    rw (c .before .before .before .before .before .flags .ensures, c .before .before .before .before .pair .ensures)
-    (open-is (s .args .self) (flag-bytes s) (pair-bytes s) (sym (c .before .before .before .before .before .before .before .modes-valid .ensures) ∙ not-false (c .before .before .before .before .before .before .before .modes-valid .result) (c .before .before .before .before .before .before .if1 .left)) (rw (sym (c .before .before .before .before .before .flags .ensures), sym (c .before .before .before .before .pair .ensures)) (c .before .before .before .if2 .left)))
+    let at-if2 = c .before .before .before in let at-pair = at-if2 .before in let at-flags = at-pair .before in let at-if1 = at-flags .before in
+    let at-modes-valid = at-if1 .before in let at-that = at-modes-valid .before in
+    let s = at-that in
+    rw (at-flags .flags .ensures, at-pair .pair .ensures)
+    (open-is (s .args .self) (flag-bytes s) (pair-bytes s) (sym (at-modes-valid .modes-valid .ensures) ∙ not-false (at-modes-valid .modes-valid .result) (at-if1 .if1 .left)) (rw (sym (at-flags .flags .ensures), sym (at-pair .pair .ensures)) (at-if2 .if2 .left)))
 
 pub valid-spec : {M : Type 1} → statement M
-valid-spec =
-    tie.close
-    (tie.spec
-    (search needs)
-    returns
-    (search needs)
-    (search needs)
-    returns-2
-    returns-3)
+valid-spec = tie.close (tie.spec (search needs) returns (search needs) (search needs) returns-2 returns-3)

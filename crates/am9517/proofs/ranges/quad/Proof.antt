@@ -1,5 +1,5 @@
 use native.Mathlib.Omega.{arith}
-use Rattle.am9517.specs.Masks.{joined}
+use Rattle.am9517.specs.ClosedMasks.{joined}
 use borrow.Author.Needs.{needs}
 use Rattle.am9517.proofs.ranges.quad.Statement.{statement}
 use Rattle.am9517.proofs.ranges.quad.Tie as tie
@@ -9,13 +9,4 @@ unfolding joined
 returns c = omega arith
 
 pub quad-spec : {M : Type 1} → statement M
-quad-spec =
-    tie.close
-    (tie.spec
-    (search needs)
-    (search needs)
-    (search needs)
-    (search needs)
-    (search needs)
-    (search needs)
-    returns)
+quad-spec = tie.close (tie.spec (search needs) (search needs) (search needs) (search needs) (search needs) (search needs) returns)

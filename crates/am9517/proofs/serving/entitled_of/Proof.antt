@@ -1,5 +1,5 @@
 use mathlib.Core.Path.{refl}
-use Rattle.am9517.specs.Sets.{entitledOf}
+use Rattle.am9517.specs.ClosedSets.{entitledOf}
 use borrow.Author.Needs.{needs}
 use Rattle.am9517.proofs.serving.entitled_of.Statement.{statement}
 use Rattle.am9517.proofs.serving.entitled_of.Tie as tie

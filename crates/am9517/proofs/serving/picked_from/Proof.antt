@@ -6,26 +6,12 @@ use Rattle.am9517.proofs.serving.picked_from.Tie as tie
 
 returns : tie.Need-returns
 unfolding pickedFrom first
-returns c = simp (c .when4 .ensures, c .before .is-set4 .ensures, c .before .before .when3 .ensures, c .before .before .before .is-set3 .ensures, c .before .before .before .before .when2 .ensures, c .before .before .before .before .before .is-set2 .ensures, c .before .before .before .before .before .before .when .ensures, c .before .before .before .before .before .before .before .is-set .ensures, c .before .before .before .before .before .before .before .before .asked4 .ensures, c .before .before .before .before .before .before .before .before .before .asked3 .ensures, c .before .before .before .before .before .before .before .before .before .before .asked2 .ensures, c .before .before .before .before .before .before .before .before .before .before .before .asked .ensures)
+returns c =
+    let at-is-set4 = c .before in let at-when3 = at-is-set4 .before in let at-is-set3 = at-when3 .before in let at-when2 = at-is-set3 .before in
+    let at-is-set2 = at-when2 .before in let at-when = at-is-set2 .before in let at-is-set = at-when .before in let at-asked4 = at-is-set .before in
+    let at-asked3 = at-asked4 .before in let at-asked2 = at-asked3 .before in let at-asked = at-asked2 .before in
+    simp (c .when4 .ensures, at-is-set4 .is-set4 .ensures, at-when3 .when3 .ensures, at-is-set3 .is-set3 .ensures, at-when2 .when2 .ensures, at-is-set2 .is-set2 .ensures, at-when .when .ensures, at-is-set .is-set .ensures, at-asked4 .asked4 .ensures, at-asked3 .asked3 .ensures, at-asked2 .asked2 .ensures, at-asked .asked .ensures)
 
 pub picked-from-spec : {M : Type 1} → statement M
-picked-from-spec =
-    tie.close
-    (tie.spec
-    (search needs)
-    (search needs)
-    (search needs)
-    (search needs)
-    (search needs)
-    (search needs)
-    (search needs)
-    (search needs)
-    (search needs)
-    (search needs)
-    (search needs)
-    (search needs)
-    (search needs)
-    (search needs)
-    (search needs)
-    (search needs)
-    returns)
+picked-from-spec = tie.close (tie.spec (search needs) (search needs) (search needs) (search needs) (search needs) (search needs) (search needs)
+    (search needs) (search needs) (search needs) (search needs) (search needs) (search needs) (search needs) (search needs) (search needs) returns)

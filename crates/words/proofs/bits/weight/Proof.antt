@@ -3,8 +3,5 @@ use Rattle.words.proofs.BitLaws.{weight-fits}
 use Rattle.words.proofs.bits.weight.Statement.{statement}
 use Rattle.words.proofs.bits.weight.Tie as tie
 
-returns : tie.Need-returns
-returns c = weight-fits _ (c .pre)
-
 pub weight-spec : {M : Type 1} → statement M
-weight-spec = tie.close (tie.spec (search needs) (search needs) returns)
+weight-spec = tie.close (tie.spec (search needs) (search needs) (λ c. weight-fits _ (c .pre)))

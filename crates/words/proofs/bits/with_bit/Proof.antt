@@ -17,7 +17,9 @@ returns-2 c = simp (lt-ltb _ _ (c .before .before .if1 .left), c .if2 .taken, c 
 
 returns-3 : tie.Need-returns-3
 unfolding withBit when
-returns-3 c = simp (lt-ltb _ _ (c .before .before .if1 .left), c .if2 .left, c .before .weight .ensures, add-zero) (bit-cleared _ _ (c .before .before .before .fits .b .fits) (c .before .before .if1 .left))
+returns-3 c =
+    let at-weight = c .before in let at-if1 = at-weight .before in let at-fits = at-if1 .before in
+    simp (lt-ltb _ _ (at-if1 .if1 .left), c .if2 .left, at-weight .weight .ensures, add-zero) (bit-cleared _ _ (at-fits .fits .b .fits) (at-if1 .if1 .left))
 
 pub with-bit-spec : {M : Type 1} → statement M
 with-bit-spec = tie.close (tie.spec returns (search needs) (search needs) returns-2 returns-3)

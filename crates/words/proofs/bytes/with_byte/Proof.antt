@@ -13,12 +13,4 @@ unfolding when withByte
 returns-2 c = simp (c .before .before .if1 .left, c .word-of2 .ensures, c .before .high-byte .ensures)
 
 pub with-byte-spec : {M : Type 1} → statement M
-with-byte-spec =
-    tie.close
-    (tie.spec
-    (search needs)
-    (search needs)
-    (search needs)
-    (search needs)
-    returns
-    returns-2)
+with-byte-spec = tie.close (tie.spec (search needs) (search needs) (search needs) (search needs) returns returns-2)

@@ -12,9 +12,6 @@ Inv-loop memory₀ from from-down to to-down n j₀ memory j = Carrying (placeOf
 abbrev μ-loop : tie.MeasureT-loop
 μ-loop memory₀ from from-down to to-down n j₀ memory j = n - j
 
-loop-holds : tie.Need-loop-holds Inv-loop μ-loop
-loop-holds c = carrying-start _ _ _ _
-
 place-requires : tie.Need-place-requires Inv-loop μ-loop
 place-requires c κs = within-computed _ _ _ _ (c .before .before .before .pre .0) _ (omega arith) (omega arith)
 
@@ -22,33 +19,23 @@ place-requires-2 : tie.Need-place-requires-2 Inv-loop μ-loop
 place-requires-2 c κs = within-computed _ _ _ _ (c .before .before .before .before .pre .1) _ (omega arith) (omega arith)
 
 slice-read-memory : tie.Need-slice-read-memory Inv-loop μ-loop
-slice-read-memory c = omega (arith, c .before .before .place .ensures, c .before .before .before .before .loop .inv .size, within-inside _ _ _ _ (c .before .before .before .before .before .before .pre .0) (c .before .before .before .before .loop .j) (omega arith))
+slice-read-memory c =
+    let at-place = c .before .before in let at-loop = at-place .before .before in let at-pre = at-loop .before .before in
+    omega (arith, at-place .place .ensures, at-loop .loop .inv .size, within-inside _ _ _ _ (at-pre .pre .0) (at-loop .loop .j) (omega arith))
 
 slice-write-memory : tie.Need-slice-write-memory Inv-loop μ-loop
-slice-write-memory c = omega (arith, c .before .place2 .ensures, c .before .before .before .before .loop .inv .size, within-inside _ _ _ _ (c .before .before .before .before .before .before .pre .1) (c .before .before .before .before .loop .j) (omega arith))
+slice-write-memory c =
+    let at-place2 = c .before in let at-loop = at-place2 .before .before .before in let at-pre = at-loop .before .before in
+    omega (arith, at-place2 .place2 .ensures, at-loop .loop .inv .size, within-inside _ _ _ _ (at-pre .pre .1) (at-loop .loop .j) (omega arith))
 
 loop-again : tie.Need-loop-again Inv-loop μ-loop
-loop-again c = carrying-on _ _ _ _ _ _ _ _ (c .before .place2 .ensures) (c .before .before .place .ensures) (omega arith) (c .before .before .before .before .loop .inv)
-
-same-length : tie.Need-same-length Inv-loop μ-loop
-same-length c = omega (arith, c .before .loop .inv .size)
+loop-again c =
+    let at-place2 = c .before in let at-place = at-place2 .before in let at-loop = at-place .before .before in
+    carrying-on _ _ _ _ _ _ _ _ (at-place2 .place2 .ensures) (at-place .place .ensures) (omega arith) (at-loop .loop .inv)
 
 returns : tie.Need-returns Inv-loop μ-loop
 returns c = carrying-end _ _ _ _ _ _ (omega arith) (c .before .loop .inv)
 
 pub carry-spec : {M : Type 1} → statement M
-carry-spec =
-    tie.close
-    (tie.spec
-    Inv-loop
-    μ-loop
-    loop-holds
-    place-requires
-    place-requires-2
-    slice-read-memory
-    slice-write-memory
-    (λ c. omega arith)
-    (λ c. omega arith)
-    loop-again
-    same-length
-    returns)
+carry-spec = tie.close (tie.spec Inv-loop μ-loop (λ c. carrying-start _ _ _ _) place-requires place-requires-2 slice-read-memory slice-write-memory
+    (λ c. omega arith) (λ c. omega arith) loop-again (λ c. omega (arith, c .before .loop .inv .size)) returns)

@@ -4,12 +4,6 @@ use native.Mathlib.Omega.{arith}
 use Rattle.words.proofs.spans.place.Statement.{statement}
 use Rattle.words.proofs.spans.place.Tie as tie
 
-sub-result : tie.Need-sub-result
-sub-result c = omega (arith, c .before .pre .0 (c .if1 .taken))
-
-add-result : tie.Need-add-result
-add-result c = omega (arith, c .before .pre .1 (c .if1 .left))
-
 returns : tie.Need-returns
 unfolding placeOf when
 returns c = simp (c .if1 .taken)
@@ -19,4 +13,5 @@ unfolding placeOf when
 returns-2 c = simp (c .if1 .left)
 
 pub place-spec : {M : Type 1} → statement M
-place-spec = tie.close (tie.spec sub-result add-result returns returns-2)
+place-spec = tie.close (tie.spec (λ c. omega (arith, c .before .pre .0 (c .if1 .taken))) (λ c. omega (arith, c .before .pre .1 (c .if1 .left)))
+    returns returns-2)

@@ -11,8 +11,5 @@ mul-result c = rw (c .when-long .ensures) (omega (arith, stride-fits (c .before 
 add-result : tie.Need-add-result
 add-result c = rw (c .when-long .ensures) (omega (arith, stride-fits (c .before .args .down) (c .before .args .n % 65536)))
 
-returns : tie.Need-returns
-returns c = rw (c .when-long .ensures) (steps-wrapped _ _ _)
-
 pub steps-spec : {M : Type 1} → statement M
-steps-spec = tie.close (tie.spec (search needs) mul-result add-result (search needs) returns)
+steps-spec = tie.close (tie.spec (search needs) mul-result add-result (search needs) (λ c. rw (c .when-long .ensures) (steps-wrapped _ _ _)))

@@ -1,0 +1,81 @@
+-- The fields of the state, named and set: no rule stands here.
+-- Field, tag, field and make are the only lines of this crate that list every field beside the channels: a new field is one line in each.
+use Prim.Native.Nat.{ℕ}
+use mathlib.Core.List.{List}
+use mathlib.Core.Bool.{cond}
+use lib.ListN.{getD, set}
+use lib.Dec.{eqb}
+use Rattle.am9517.specs.declared.Channel.{Channel}
+use Rattle.am9517.specs.declared.Controller.{Controller}
+
+pub data Field : Type 0 where
+  Command Tc Request Mask Temporary FlipFlop Pins Lowest InService Serving LatchFull Latch : Field
+
+-- tells two fields apart: help for `but`, no rule
+abbrev pub tag : Field → ℕ
+tag Command = 0
+tag Tc = 1
+tag Request = 2
+tag Mask = 3
+tag Temporary = 4
+tag FlipFlop = 5
+tag Pins = 6
+tag Lowest = 7
+tag InService = 8
+tag Serving = 9
+tag LatchFull = 10
+tag Latch = 11
+
+-- the field's value
+abbrev pub field : Controller → Field → ℕ
+field s Command = s .command
+field s Tc = s .tc
+field s Request = s .request
+field s Mask = s .mask
+field s Temporary = s .temporary
+field s FlipFlop = s .«flip_flop»
+field s Pins = s .pins
+field s Lowest = s .lowest
+field s InService = s .«in_service»
+field s Serving = s .serving
+field s LatchFull = s .«latch_full»
+field s Latch = s .latch
+
+-- the state of these channels and fields
+abbrev pub make : List Channel → (Field → ℕ) → Controller
+make cs f =
+    record {
+      channels = cs;
+      command = f Command;
+      tc = f Tc;
+      request = f Request;
+      mask = f Mask;
+      temporary = f Temporary;
+      «flip_flop» = f FlipFlop;
+      pins = f Pins;
+      lowest = f Lowest;
+      «in_service» = f InService;
+      serving = f Serving;
+      «latch_full» = f LatchFull;
+      latch = f Latch;
+    }
+
+-- fields f with g as v
+abbrev pub but : (Field → ℕ) → Field → ℕ → Field → ℕ
+but f g v h = cond (eqb (tag g) (tag h)) v (f h)
+
+-- the state with the field g as v
+abbrev pub put : Controller → Field → ℕ → Controller
+put s g v = make (s .channels) (but (field s) g v)
+
+-- a channel of zeros
+abbrev pub blank : Channel
+blank = record { «base_address» = 0; address = 0; «base_count» = 0; count = 0; mode = 0 }
+
+-- channel n
+abbrev pub channel : Controller → ℕ → Channel
+channel s n = getD (s .channels) n blank
+
+-- the state with channel n as c
+abbrev pub withChannel : Controller → ℕ → Channel → Controller
+withChannel s n c = make (set (s .channels) n c) (field s)

@@ -1,0 +1,23 @@
+-- What the private functions of src/ ask of their callers.
+use Prim.Native.Nat.{ℕ, _≤_}
+use mathlib.Core.Path.{_≡_}
+use mathlib.Core.Bool.{true, false}
+use mathlib.Core.List.{List}
+use lib.ListN.{length}
+use Rattle.words.specs.Spans.{Within}
+use Rattle.am9517.specs.Modes.{decrement}
+use Rattle.am9517.specs.declared.Channel.{Channel}
+use Rattle.am9517_service.specs.declared.copies.Route.{Route}
+use Rattle.am9517_service.specs.Transfer.{writes, reads}
+
+-- bytes and room for n transfers
+pub record Stocked (ch : Channel) (m d r : List ℕ) (n : ℕ) : Type 0 where
+  pub memory : length m ≡ 65536
+  pub most : n ≤ 65536
+  pub bytes : writes ch ≡ true → n ≤ length d
+  pub space : reads ch ≡ true → n ≤ length r
+
+-- no address of n bytes addressAfter a route turns over
+pub record Straight (ρ : Route) (n : ℕ) : Type 0 where
+  pub target : Within (ρ .«to_down») (ρ .to) n 65536
+  pub source : ρ .hold ≡ false → Within (decrement (ρ .source .mode)) (ρ .source .address) n 65536

@@ -1,0 +1,89 @@
+-- A state and its body.
+use Prim.Native.Nat.{ℕ, _+_, _≤_}
+use mathlib.Core.Path.{_≡_, refl, sym, ap, _∙_}
+use mathlib.Core.List.{List, [], _∷_, _++_, map}
+use native.Mathlib.Omega.{arith}
+use native.Mathlib.Nat.{add-zero}
+use lib.ListN.{length, getD, take, drop, length-drop}
+use lib.Seq.{take-add, getD-drop}
+use Rattle.am9517.specs.Fields.{blank, channel, make, field}
+use Rattle.am9517.specs.declared.Channel.{Channel}
+use Rattle.am9517.specs.declared.Controller.{Controller}
+use Rattle.am9517_sheet.specs.declared.forms.Form.{Form}
+use Rattle.am9517_sheet.specs.declared.forms.Form.the-variants.{One}
+use Rattle.am9517_sheet.specs.Bytes.{total, placed, OfBytes}
+use Rattle.am9517_sheet.specs.ClosedSums.{sixteenOf}
+use Rattle.am9517_sheet.specs.Form.{front, behind, channelsAt, bodySize}
+use Rattle.am9517_sheet.specs.Body.{channelBytes, channelsBytes, bodyOf, stateOf}
+use Rattle.am9517_sheet.proofs.BytesLaws.{stored-next, word-whole, word-low, word-high, first-cells}
+
+-- a list of four is its four elements
+four : (cs : List Channel) → length cs ≡ 4 → getD cs 0 blank ∷ getD cs 1 blank ∷ getD cs 2 blank ∷ getD cs 3 blank ∷ [] ≡ cs
+four [] h = absurd (omega arith)
+four (a ∷ []) h = absurd (omega arith)
+four (a ∷ b ∷ []) h = absurd (omega arith)
+four (a ∷ b ∷ c ∷ []) h = absurd (omega arith)
+four (a ∷ b ∷ c ∷ d ∷ []) h = refl
+four (a ∷ b ∷ c ∷ d ∷ e ∷ cs) h = absurd (omega arith)
+
+-- What is seen of each form by itself: a line each.
+-- its sizes
+pub body-fits : (form : Form) → bodySize form ≤ 256
+body-fits One = omega arith
+
+pub body-length : (form : Form) (s : Controller) → length (bodyOf form s) ≡ bodySize form
+unfolding bodyOf
+body-length One s = refl
+
+-- its sum
+pub body-sum : (form : Form) (b : List ℕ) → bodySize form ≤ length b
+    → sixteenOf (drop (channelsAt form) b) 0 + sixteenOf (drop (channelsAt form) b) 16 + sixteenOf (drop (channelsAt form) b) 32 ≡ total (take (bodySize form) b)
+unfolding total
+body-sum One b h = rw (first-cells 48 b h) (omega arith)
+
+-- the fields before its channels, stored
+front-stored : (form : Form) (s : Controller) (out : List ℕ) (start : ℕ) → placed out (start + channelsAt form) (channelsBytes s ++ map (field s) behind) ≡ placed out start (bodyOf form s)
+unfolding bodyOf
+front-stored One s out start = ap (λ (k : ℕ). placed out k (channelsBytes s ++ map (field s) behind)) (add-zero start)
+
+-- the state that a state's body tells, whatever stands behind it
+pub state-of-body : (form : Form) (s : Controller) (rest : List ℕ) → length (s .channels) ≡ 4 → stateOf form (bodyOf form s ++ rest) ≡ s
+unfolding stateOf bodyOf
+state-of-body One s rest h = simp word-whole (ap (λ (cs : List Channel). make cs (field s)) (four (s .channels) h))
+
+-- the fields before its channels, told
+front-told : (form : Form) (xs : List ℕ) → map (field (stateOf form xs)) (front form) ≡ take (channelsAt form) xs
+front-told One xs = refl
+
+-- the body of the state that bytes tell is the first of them
+core-of-state : (form : Form) (xs : List ℕ) → OfBytes xs → bodySize form ≤ length xs
+    → channelsBytes (stateOf form xs) ++ map (field (stateOf form xs)) behind ≡ take 48 (drop (channelsAt form) xs)
+unfolding stateOf
+core-of-state form xs byte h =
+    let at = channelsAt form in
+    let bytes : OfBytes (drop at xs) = λ i. rw (getD-drop at xs i 0) (byte _) in
+    simp (word-low, word-high, bytes) (sym (first-cells 48 (drop at xs) (omega (arith, length-drop at xs))))
+
+pub body-of-state : (form : Form) (xs : List ℕ) → OfBytes xs → bodySize form ≤ length xs → bodyOf form (stateOf form xs) ≡ take (bodySize form) xs
+unfolding bodyOf
+body-of-state form xs byte h =
+    ap (λ (l : List ℕ). l ++ (channelsBytes (stateOf form xs) ++ map (field (stateOf form xs)) behind)) (front-told form xs)
+    ∙ ap (λ (l : List ℕ). take (channelsAt form) xs ++ l) (core-of-state form xs byte h)
+    ∙ sym (take-add (channelsAt form) 48 xs)
+
+-- four channels, and the fields behind them, stored one behind the other
+pub channels-stored : (s : Controller) (out b0 b1 b2 b3 : List ℕ) (at a1 a2 a3 : ℕ) → at + 36 ≤ length out
+    → b0 ≡ placed out at (channelBytes (channel s 0)) → a1 ≡ at + 9 → b1 ≡ placed b0 a1 (channelBytes (channel s 1)) → a2 ≡ a1 + 9
+    → b2 ≡ placed b1 a2 (channelBytes (channel s 2)) → a3 ≡ a2 + 9 → b3 ≡ placed b2 a3 (channelBytes (channel s 3)) → b3 ≡ placed out at (channelsBytes s)
+channels-stored s out b0 b1 b2 b3 at a1 a2 a3 h g0 h1 g1 h2 g2 h3 g3 =
+    let p0 = channelBytes (channel s 0) in
+    let p1 = channelBytes (channel s 1) in
+    let p2 = channelBytes (channel s 2) in
+    let two = stored-next out b0 b1 p0 p1 at a1 (omega arith) g0 h1 g1 in
+    let three = stored-next out b1 b2 (p0 ++ p1) p2 at a2 (omega arith) two (omega arith) g2 in
+    stored-next out b2 b3 (p0 ++ p1 ++ p2) (channelBytes (channel s 3)) at a3 (omega arith) three (omega arith) g3
+
+pub body-stored : (form : Form) (s : Controller) (out one two : List ℕ) (start at to : ℕ) → start + bodySize form ≤ length out → at ≡ start + channelsAt form
+    → one ≡ placed out at (channelsBytes s) → to ≡ at + 36 → two ≡ placed one to (map (field s) behind) → two ≡ placed out start (bodyOf form s)
+body-stored form s out one two start at to h e e1 e' e2 =
+    stored-next out one two (channelsBytes s) (map (field s) behind) at to (omega arith) e1 e' e2 ∙ rw e (front-stored form s out start)

@@ -1,0 +1,6 @@
+-- Laws of bytes in lists, of bodies and of trailers, and the theorems about sheets.
+pub mod BytesLaws
+pub mod TrailerLaws
+pub mod BodyLaws
+pub mod SheetLaws
+pub mod TripLaws

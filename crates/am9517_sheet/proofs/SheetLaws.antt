@@ -1,0 +1,83 @@
+-- Accepted calls of sheet writing and sheet reading: what they give, and when they are accepted.
+use Prim.Native.Nat.{ℕ, _+_, _-_, _≤_}
+use mathlib.Core.Path.{_≡_, refl, sym, ap, _∙_}
+use mathlib.Core.Bool.{Bool, true, false, not}
+use mathlib.Core.List.{List}
+use native.Mathlib.Omega.{arith}
+use lib.Dec.{eqb}
+use lib.ListN.{length, length-append}
+use borrow.Author.Tests.{eqb-true, not-false, ltb-false, le-ltb}
+use Rattle.words.specs.Choice.{when}
+use Rattle.words.specs.Grounds.{first}
+use Rattle.am9517.specs.Ranges.{valid}
+use Rattle.am9517.specs.Refusals.{refusal}
+use Rattle.am9517.specs.declared.Controller.{Controller}
+use Rattle.am9517_sheet.specs.declared.SheetAnswer.the-variants.{Done, Refused}
+use Rattle.am9517_sheet.specs.declared.forms.Form.{Form}
+use Rattle.am9517_sheet.specs.Bytes.{placed}
+use Rattle.am9517_sheet.specs.Form.{sheetSize}
+use Rattle.am9517_sheet.specs.Body.{bodyOf, stateOf}
+use Rattle.am9517_sheet.specs.Trailer.{trailerOf, trailerGrounds}
+use Rattle.am9517_sheet.specs.Sheet.{sheetIn, sheetOf, sheetRefusalNumber, answerOf, stored, sheetWriteGrounds, sheetWriteOf, sheetReadGrounds, sheetReadOf}
+use Rattle.words.proofs.GroundLaws.{passed}
+use Rattle.am9517_sheet.proofs.TrailerLaws.{trailer-accepted}
+use Rattle.am9517_sheet.proofs.BodyLaws.{body-length, state-of-body}
+
+-- the answer says the refusal's own number
+pub number-said : (n : ℕ) → sheetRefusalNumber (answerOf n) ≡ n
+unfolding answerOf when
+number-said n = go (eqb n 0) refl
+  where
+    go : (t : Bool) → eqb n 0 ≡ t → sheetRefusalNumber (when t Done (Refused n)) ≡ n
+    go true e = sym (eqb-true _ _ e)
+    go false e = refl
+
+module _ (form : Form) where
+  pub sheet-length : (s : Controller) → length (sheetOf form s) ≡ sheetSize form
+  sheet-length s = length-append (bodyOf form s) (trailerOf form (bodyOf form s)) ∙ ap (λ (n : ℕ). n + 8) (body-length form s)
+
+  -- an accepted write: what it stores, and when it is one
+  pub write-done : (s : Controller) (out : List ℕ) → refusal (sheetWriteGrounds form s (length out)) ≡ 0
+      → sheetWriteOf form s out ≡ stored Done (placed out (length out - sheetSize form) (sheetOf form s))
+  unfolding answerOf when
+  write-done s out e = simp e
+
+  module _ (s : Controller) (n : ℕ) where
+    pub write-free : valid s ≡ true → sheetSize form ≤ n → refusal (sheetWriteGrounds form s n) ≡ 0
+    unfolding refusal first when
+    write-free v h = simp (v, le-ltb _ _ h)
+
+    pub write-valid : refusal (sheetWriteGrounds form s n) ≡ 0 → valid s ≡ true
+    unfolding refusal first
+    write-valid e = not-false _ (passed _ _ _ (omega arith) e .test)
+
+    pub write-room : refusal (sheetWriteGrounds form s n) ≡ 0 → sheetSize form ≤ n
+    unfolding refusal first
+    write-room e = ltb-false _ _ (passed _ _ _ (omega arith) (passed _ _ _ (omega arith) e .next) .test)
+
+  module _ (bytes : List ℕ) where
+    -- an accepted read: what it tells, and its room
+    pub read-done : (t : Controller) → refusal (sheetReadGrounds form bytes) ≡ 0
+        → sheetReadOf form t bytes ≡ record { controller = stateOf form (sheetIn form bytes); answer = Done }
+    unfolding answerOf when
+    read-done t e = simp e
+
+    pub read-room : refusal (sheetReadGrounds form bytes) ≡ 0 → sheetSize form ≤ length bytes
+    unfolding refusal first
+    read-room e = ltb-false _ _ (passed _ _ _ (omega arith) e .test)
+
+  -- what is refused of the sheet's bytes themselves
+  abbrev pub refusedIn : List ℕ → ℕ
+  refusedIn sheet = first (trailerGrounds form sheet) (when (not (valid (stateOf form sheet))) 14 0)
+
+  -- a slice with room for a sheet is refused by what the sheet says
+  pub refused-by-sheet : (bytes : List ℕ) → sheetSize form ≤ length bytes
+      → refusal (sheetReadGrounds form bytes) ≡ refusedIn (sheetIn form bytes)
+  unfolding refusal first when
+  refused-by-sheet bytes h = rw (le-ltb _ _ h)
+
+  -- the sheet of a state in its ranges is accepted
+  pub sheet-accepted : (s : Controller) → length (s .channels) ≡ 4 → valid s ≡ true → refusedIn (sheetOf form s) ≡ 0
+  unfolding when
+  sheet-accepted s h v =
+      rw (state-of-body form s (trailerOf form (bodyOf form s)) h, v) (trailer-accepted form (bodyOf form s) 0 (body-length form s))

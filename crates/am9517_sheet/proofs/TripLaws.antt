@@ -1,0 +1,83 @@
+-- What is written is read back, what is read is written back, and the fresh sheet is the printed one.
+use Prim.Native.Nat.{ℕ, _-_}
+use mathlib.Core.Path.{_≡_, refl, sym, ap, _∙_}
+use mathlib.Core.Bool.{true}
+use mathlib.Core.List.{List, [], _∷_, _++_}
+use native.Mathlib.Omega.{arith}
+use native.Mathlib.Nat.{add-zero}
+use lib.ListN.{length, take, drop, replicate, length-drop, take-append-drop}
+use lib.Seq.{getD-drop, length-take-le}
+use borrow.Author.Tests.{not-false}
+use Rattle.am9517.specs.State.{fresh}
+use Rattle.am9517.specs.Ranges.{valid}
+use Rattle.am9517.specs.Refusals.{refusal}
+use Rattle.am9517.specs.declared.Controller.{Controller}
+use Rattle.am9517_sheet.specs.declared.SheetAnswer.the-variants.{Done}
+use Rattle.am9517_sheet.specs.declared.SheetRead.{SheetRead}
+use Rattle.am9517_sheet.specs.declared.forms.Form.{Form}
+use Rattle.am9517_sheet.specs.declared.forms.Form.the-variants.{One}
+use Rattle.am9517_sheet.specs.Bytes.{word, total, placed, OfBytes}
+use Rattle.am9517_sheet.specs.Form.{bodySize, sheetSize}
+use Rattle.am9517_sheet.specs.Body.{bodyOf, stateOf}
+use Rattle.am9517_sheet.specs.Trailer.{trailerOf, withTrailer}
+use Rattle.am9517_sheet.specs.Sheet.{sheetIn, sheetOf, sheetRefusalNumber, Stored, stored, sheetWriteOf, sheetReadGrounds, sheetReadOf}
+use Rattle.words.proofs.GroundLaws.{passed}
+use Rattle.am9517_sheet.proofs.BytesLaws.{length-placed, last-placed, placed-self, word-drop, cells, all-cells}
+use Rattle.am9517_sheet.proofs.TrailerLaws.{trailer-told, trailer-bytes}
+use Rattle.am9517_sheet.proofs.BodyLaws.{state-of-body, body-of-state}
+use Rattle.am9517_sheet.proofs.SheetLaws.{number-said, sheet-length, write-done, write-room, write-valid, write-free, refusedIn, read-done, read-room, refused-by-sheet, sheet-accepted}
+
+-- "The fresh sheet: all zero but byte 39 = 0Fh and 43 = 03h, then 01 00 30 00 12 00 44 4D."
+pub fresh-sheet : sheetOf One fresh
+    ≡ replicate 39 0 ++ (0x0F ∷ 0 ∷ 0 ∷ 0 ∷ 0x03 ∷ 0 ∷ 0 ∷ 0 ∷ 0 ∷ 0x01 ∷ 0x00 ∷ 0x30 ∷ 0x00 ∷ 0x12 ∷ 0x00 ∷ 0x44 ∷ 0x4D ∷ [])
+unfolding bodyOf total
+fresh-sheet = refl
+
+module _ (form : Form) where
+  -- What is written is read back, whatever state t the reader had.
+  pub written-read : (s t : Controller) (out : List ℕ) → length (s .channels) ≡ 4 → sheetWriteOf form s out .answer ≡ Done
+      → sheetReadOf form t (sheetWriteOf form s out .bytes) ≡ record { controller = s; answer = Done }
+  written-read s t out channels done =
+      let free = sym (number-said _) ∙ ap sheetRefusalNumber done in
+      let room = write-room form s (length out) free in
+      let at = length out - sheetSize form in
+      let bytes = placed out at (sheetOf form s) in
+      let sheet : sheetIn form bytes ≡ sheetOf form s = last-placed out (sheetOf form s) (sheetSize form) (sheet-length form s) room in
+      let long : length bytes ≡ length out = length-placed out at (sheetOf form s) (omega (arith, sheet-length form s)) in
+      let good : refusal (sheetReadGrounds form bytes) ≡ 0 =
+      refused-by-sheet form bytes (omega arith) ∙ ap (refusedIn form) sheet ∙ sheet-accepted form s channels (write-valid form s (length out) free) in
+      let state : stateOf form (sheetIn form bytes) ≡ s = ap (stateOf form) sheet ∙ state-of-body form s (trailerOf form (bodyOf form s)) channels in
+      ap (λ (w : Stored). sheetReadOf form t (w .bytes)) (write-done form s out free)
+      ∙ read-done form bytes t good
+      ∙ ap (λ (u : Controller). record { controller = u; answer = Done }) state
+
+  sheet-of-state : (sheet : List ℕ) → OfBytes sheet → length sheet ≡ sheetSize form → refusedIn form sheet ≡ 0 → sheetOf form (stateOf form sheet) ≡ sheet
+  sheet-of-state sheet byte size free =
+      let told = trailer-told form sheet _ free in
+      let k = bodySize form in
+      let body = take k sheet in
+      let behind = drop k sheet in
+      let long : length body ≡ k = length-take-le k sheet (omega arith) in
+      let bytes : OfBytes behind = λ i. rw (getD-drop k sheet i 0) (byte _) in
+      let tail : trailerOf form body ≡ cells 0 8 behind =
+      trailer-bytes form body _ _ _ _ _ _ _ _ (bytes 0) (bytes 2) (bytes 4) (bytes 6)
+      (word-drop sheet k 0 ∙ ap (word sheet) (add-zero k) ∙ told .said) (word-drop sheet k 2 ∙ told .distance ∙ sym long) (word-drop sheet k 4 ∙ told .sum) (word-drop sheet k 6 ∙ told .mark) in
+      ap (withTrailer form) (body-of-state form sheet byte (omega arith))
+      ∙ ap (λ (l : List ℕ). body ++ l) (tail ∙ sym (all-cells 8 behind (omega (arith, length-drop k sheet))))
+      ∙ take-append-drop k sheet
+
+  -- What is read is written back: the slice stays as it was.
+  pub read-written : (t : Controller) (bytes : List ℕ) → OfBytes bytes → sheetReadOf form t bytes .answer ≡ Done
+      → sheetWriteOf form (sheetReadOf form t bytes .controller) bytes ≡ stored Done bytes
+  read-written t bytes byte done =
+      let free : refusal (sheetReadGrounds form bytes) ≡ 0 = sym (number-said _) ∙ ap sheetRefusalNumber done in
+      let room = read-room form bytes free in
+      let at = length bytes - sheetSize form in
+      let sheet = sheetIn form bytes in
+      let fine : refusedIn form sheet ≡ 0 = sym (refused-by-sheet form bytes room) ∙ free in
+      let good : valid (stateOf form sheet) ≡ true = not-false _ (passed _ _ _ (omega arith) (trailer-told form sheet _ fine .rest) .test) in
+      let back : sheetOf form (stateOf form sheet) ≡ sheet =
+      sheet-of-state sheet (λ i. rw (getD-drop at bytes i 0) (byte _)) (omega (arith, length-drop at bytes)) fine in
+      ap (λ (r : SheetRead). sheetWriteOf form (r .controller) bytes) (read-done form bytes t free)
+      ∙ write-done form (stateOf form sheet) bytes (write-free form (stateOf form sheet) (length bytes) good room)
+      ∙ ap (stored Done) (rw back (placed-self bytes (sheetSize form) room))

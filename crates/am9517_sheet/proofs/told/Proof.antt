@@ -1,0 +1,24 @@
+use Rattle.am9517_sheet.specs.Body.{stateOf}
+use Rattle.am9517_sheet.specs.Form.{sheetSize}
+use Rattle.am9517_sheet.specs.declared.forms.Form.the-variants.{One}
+use Rattle.words.proofs.PartLaws.{tail-all}
+use Rattle.words.specs.Choice.{when}
+use borrow.Author.Tests.{lt-ltb, le-ltb}
+use lib.ListN.{length}
+use Prim.Native.Nat.{_-_}
+use borrow.Author.Needs.{needs}
+use Rattle.am9517_sheet.proofs.told.Statement.{statement}
+use Rattle.am9517_sheet.proofs.told.Tie as tie
+
+returns : tie.Need-returns
+unfolding stateOf when
+returns c = simp (c .state-of .ensures, lt-ltb _ _ (c .before .if1 .taken))
+
+returns-2 : tie.Need-returns-2
+unfolding when
+returns-2 c =
+    let at-if1 = c .before .before in let entry = at-if1 .before .before in
+    simp (c .state-in .ensures, tail-all (length (entry .args .bytes .now) - sheetSize One) (entry .args .bytes .now), le-ltb _ _ (at-if1 .if1 .left))
+
+pub told-spec : {M : Type 1} → statement M
+told-spec = tie.close (tie.spec (search needs) returns (search needs) (search needs) (search needs) (search needs) returns-2)

@@ -1,0 +1,34 @@
+-- What a form decides: its number, and the fields that stand before the channels. A new form is a line in each.
+use Prim.Native.Nat.{ℕ, _+_, _*_}
+use mathlib.Core.List.{List, [], _∷_}
+use lib.ListN.{length}
+use Rattle.am9517.specs.Fields.{Field, Command, Tc, Request, Mask, Temporary, FlipFlop, Pins, Lowest, InService, Serving, LatchFull, Latch}
+use Rattle.am9517_sheet.specs.declared.forms.Form.{Form}
+use Rattle.am9517_sheet.specs.declared.forms.Form.the-variants.{One}
+
+-- "Trailer, 8 bytes: 01, 00, .."
+abbrev pub number : Form → ℕ
+number One = 1
+
+-- the fields before the channels, in the order of their places
+abbrev pub front : Form → List Field
+front One = []
+
+-- those behind the channels, the same in every form: "36 command; 37 TC; 38 request; 39 mask; 40 temporary; 41 flip-flop; 42 pins;
+-- 43 lowest; 44 in service; 45 serving; 46 latch full; 47 latch"
+abbrev pub behind : List Field
+behind = Command ∷ Tc ∷ Request ∷ Mask ∷ Temporary ∷ FlipFlop ∷ Pins ∷ Lowest ∷ InService ∷ Serving ∷ LatchFull ∷ Latch ∷ []
+
+-- where the channels begin; from there on, where channel n begins ("9 bytes each, 0 to 35"), and what stands behind channel 3
+abbrev pub channelsAt : Form → ℕ
+channelsAt form = length (front form)
+
+abbrev pub channelPlace : ℕ → ℕ
+channelPlace n = 9 * n
+
+-- "Body, 48 bytes" with no field before the channels; with its trailer "the last 56 bytes"
+abbrev pub bodySize : Form → ℕ
+bodySize form = channelsAt form + (channelPlace 4 + length behind)
+
+abbrev pub sheetSize : Form → ℕ
+sheetSize form = bodySize form + 8

@@ -1,0 +1,42 @@
+// What a form of the sheet decides.
+ghost use mathlib.Core.Path.{_≡_};
+ghost use Rattle.am9517_sheet.specs.Form.{number, channelsAt, bodySize, sheetSize};
+
+// Of form 1: the bytes of a body, and with its trailer.
+pub const BODY: usize = 48;
+
+pub const SHEET: usize = BODY + 8;
+
+pub enum Form {
+    One,
+}
+
+// What the first two bytes of its trailer say.
+pub(crate) fn number(form: Form) -> u16
+    ensures { λ r. ⌜ r ≡ number form ⌝ }
+{
+    match form {
+        Form::One => 1,
+    }
+}
+
+// Where the channels begin in its body, behind the fields that stand before them.
+pub(crate) fn channels_at(form: Form) -> usize
+    ensures { λ r. ⌜ r ≡ channelsAt form ⌝ }
+{
+    match form {
+        Form::One => 0,
+    }
+}
+
+pub(crate) fn body_size(form: Form) -> usize
+    ensures { λ r. ⌜ r ≡ bodySize form ⌝ }
+{
+    channels_at(form) + BODY
+}
+
+pub(crate) fn sheet_size(form: Form) -> usize
+    ensures { λ r. ⌜ r ≡ sheetSize form ⌝ }
+{
+    body_size(form) + 8
+}

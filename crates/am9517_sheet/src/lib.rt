@@ -1,0 +1,130 @@
+// Stored sheets, at the end of a lent slice.
+use crate::body::state_in;
+use crate::body::store_body;
+use crate::bytes::store;
+use crate::forms::Form;
+use crate::forms::sheet_size;
+use crate::trailer::store_trailer;
+use crate::trailer::trailer_refusal;
+use am9517::Controller;
+use words::choice::when;
+ghost use mathlib.Core.Path.{_≡_};
+ghost use Rattle.am9517_sheet.specs.declared.forms.Form.the-variants.{One};
+ghost use Rattle.am9517.specs.Refusals.{refusal};
+ghost use Rattle.am9517_sheet.specs.Sheet.{stored, sheetWriteOf, sealGrounds, sheetReadOf, toldIn, sealedIn};
+
+mod body;
+mod bytes;
+mod forms;
+mod trailer;
+
+pub use body::body_of;
+pub use body::state_of;
+pub use forms::BODY;
+pub use forms::SHEET;
+
+// What writing or reading a sheet says: done, or the number of its refusal.
+pub enum SheetAnswer {
+    Done,
+    Refused(u8),
+}
+
+// The state that was read, which is the old one where the answer is a refusal.
+pub struct SheetRead {
+    pub controller: Controller,
+    pub answer: SheetAnswer,
+}
+
+fn write_in(form: Form, c: Controller, out: &mut [u8]) -> SheetAnswer
+    ensures { λ r. ⌜ stored r (now (out .exit)) ≡ sheetWriteOf form c (now (out .entry)) ⌝ }
+{
+    let n = out.len();
+    let size = sheet_size(form);
+    if !c.valid() {
+        return SheetAnswer::Refused(1);
+    }
+    if n < size {
+        return SheetAnswer::Refused(9);
+    }
+    let start = n - size;
+    store_body(form, c, out, start);
+    store_trailer(form, out, start);
+    SheetAnswer::Done
+}
+
+// The controller's sheet of form 1 is written at the end of the slice.
+pub fn write(c: Controller, out: &mut [u8]) -> SheetAnswer
+    ensures { λ r. ⌜ stored r (now (out .exit)) ≡ sheetWriteOf One c (now (out .entry)) ⌝ }
+{
+    write_in(Form::One, c, out)
+}
+
+fn read_in(form: Form, c: Controller, bytes: &[u8]) -> SheetRead
+    ensures { λ r. ⌜ r ≡ sheetReadOf form c (now (bytes .entry)) ⌝ }
+{
+    let n = bytes.len();
+    let size = sheet_size(form);
+    if n < size {
+        return SheetRead {
+            controller: c,
+            answer: SheetAnswer::Refused(9),
+        };
+    }
+    let start = n - size;
+    let sheet = &bytes[start..];
+    let next = state_in(form, sheet);
+    let no = trailer_refusal(form, sheet, when(!next.valid(), 14, 0));
+    if no != 0 {
+        return SheetRead {
+            controller: c,
+            answer: SheetAnswer::Refused(no),
+        };
+    }
+    SheetRead {
+        controller: next,
+        answer: SheetAnswer::Done,
+    }
+}
+
+// The sheet of form 1 at the end of the slice is read; a refused one leaves the state.
+pub fn read(c: Controller, bytes: &[u8]) -> SheetRead
+    ensures { λ r. ⌜ r ≡ sheetReadOf One c (now (bytes .entry)) ⌝ }
+{
+    read_in(Form::One, c, bytes)
+}
+
+// The refusal of the sheet of form 1 without its ranges, 9 to 13; 0 for none.
+pub fn seal_refusal(bytes: &[u8]) -> u8
+    ensures { λ r. ⌜ r ≡ refusal (sealGrounds One (now (bytes .entry))) ⌝ }
+{
+    let n = bytes.len();
+    if n < SHEET {
+        return 9;
+    }
+    let start = n - SHEET;
+    trailer_refusal(Form::One, &bytes[start..], 0)
+}
+
+// The state that the sheet of form 1 tells, sealed and in its ranges or not; of zeros where there is none.
+pub fn told(bytes: &[u8]) -> Controller
+    ensures { λ r. ⌜ r ≡ toldIn One (now (bytes .entry)) ⌝ }
+{
+    let n = bytes.len();
+    if n < SHEET {
+        return state_of([0; BODY]);
+    }
+    let start = n - SHEET;
+    state_in(Form::One, &bytes[start..])
+}
+
+// The sheet of form 1 with this body is stored at the end of the slice, if it has room.
+pub fn seal(bytes: &mut [u8], body: [u8; BODY])
+    ensures { λ _. ⌜ now (bytes .exit) ≡ sealedIn One body (now (bytes .entry)) ⌝ }
+{
+    let n = bytes.len();
+    if SHEET <= n {
+        let start = n - SHEET;
+        store(bytes, start, &body);
+        store_trailer(Form::One, bytes, start);
+    }
+}

@@ -1,2 +1,0 @@
--- The answers of the protocol's page.
-pub mod Answers

@@ -1,2 +1,0 @@
--- The commands on the memory, the queue and the room, from the protocol's page.
-pub mod Arrays

@@ -1,0 +1,117 @@
+-- The commands run and round: their answers, and what they leave.
+use Prim.Native.Nat.{ℕ}
+use mathlib.Core.List.{List, _++_}
+use lib.ListN.{getD}
+use Rattle.am9517.specs.declared.Controller.{Controller}
+use Rattle.am9517_service.specs.Answers.{Given, ranOf}
+use Rattle.am9517_service.specs.declared.Counts.{Counts}
+use Rattle.am9517_service.specs.declared.Reason.{Reason}
+use Rattle.am9517_service.specs.declared.Reason.the-variants.{Ended, Dropped, Cascade, Limit, Short}
+use Rattle.am9517_service.specs.declared.RunAnswer.{RunAnswer}
+use Rattle.am9517_service.specs.declared.RunAnswer.the-variants.{Stopped as RunStopped, Refused as RunRefused}
+use Rattle.am9517_service.specs.declared.Ran.{Ran}
+use Rattle.am9517_service.specs.RoundAnswers.{RoundGiven, roundedOf}
+use Rattle.am9517_service.specs.declared.RoundAnswer.{RoundAnswer}
+use Rattle.am9517_service.specs.declared.RoundAnswer.the-variants.{Done, Quiet, Stopped, Refused}
+use Rattle.am9517_service.specs.declared.Rounded.{Rounded}
+use Rattle.console_text.specs.Text.{codes, Page, page, put}
+use Rattle.console_text.specs.Numbers.{numberOf, decimalText}
+use Rattle.console_chip.specs.Answers.{errorText, refusedText, numbered, wordMost}
+use Rattle.console_arrays.specs.declared.runs.Served.{Served}
+
+unfoldable pub reasonText : Reason → List ℕ
+reasonText Ended = codes "ended"
+reasonText Dropped = codes "dropped"
+reasonText Cascade = codes "cascade"
+reasonText Limit = codes "limit"
+reasonText Short = codes "short"
+
+-- " transfers=T used=U written=W states=S"
+unfoldable pub countsText : Counts → List ℕ
+countsText n =
+    codes " transfers="
+    ++ decimalText (n .transfers)
+    ++ codes " used="
+    ++ decimalText (n .used)
+    ++ codes " written="
+    ++ decimalText (n .written)
+    ++ codes " states="
+    ++ decimalText (n .states)
+
+unfoldable pub runText : RunAnswer → List ℕ → List ℕ
+runText (RunStopped why) counts = reasonText why ++ counts
+runText (RunRefused n) counts = refusedText n
+
+unfoldable pub roundText : RoundAnswer → List ℕ → List ℕ
+roundText Done counts = codes "done" ++ counts
+roundText Quiet counts = codes "quiet" ++ counts
+roundText (Stopped why) counts = reasonText why ++ counts
+roundText (Refused n) counts = refusedText n
+
+-- " services=A,B,C,D"
+unfoldable pub servicesText : List ℕ → List ℕ
+servicesText s =
+    codes " services="
+    ++ decimalText (getD s 0 0)
+    ++ codes ","
+    ++ decimalText (getD s 1 0)
+    ++ codes ","
+    ++ decimalText (getD s 2 0)
+    ++ codes ","
+    ++ decimalText (getD s 3 0)
+
+-- What a service leaves: the next controller, the device bytes used and written, the lent memory and room, and the page.
+pub record Service : Type 0 where
+  pub controller : Controller
+  pub used : ℕ
+  pub written : ℕ
+  pub memory : List ℕ
+  pub room : List ℕ
+  pub page : Page
+
+abbrev pub served : Served → List ℕ → List ℕ → List ℕ → Service
+served r m room out =
+    record { controller = r .controller; used = r .used; written = r .written; memory = m; room = room; page = page out (r .at) }
+
+-- "error, nothing changed"
+abbrev pub unserved : Controller → List ℕ → List ℕ → Page → Service
+unserved c m room p = record { controller = c; used = 0; written = 0; memory = m; room = room; page = put p errorText }
+
+abbrev pub ranText : Ran → List ℕ
+ranText r = runText (r .answer) (countsText (r .counts))
+
+unfoldable pub runService : Page → Given → Service
+runService p g =
+    record {
+      controller = g .ran .controller;
+      used = g .ran .counts .used;
+      written = g .ran .counts .written;
+      memory = g .memory;
+      room = g .room;
+      page = put p (ranText (g .ran));
+    }
+
+abbrev pub runReply : Controller → List ℕ → List ℕ → List ℕ → Page → List ℕ → List ℕ → Service
+runReply c m device room p limit eop =
+    numbered (numberOf wordMost limit)
+    (λ (l : ℕ). numbered (numberOf wordMost eop) (λ (e : ℕ). runService p (ranOf c m device room l e)) (unserved c m room p))
+    (unserved c m room p)
+
+abbrev pub roundedText : Rounded → List ℕ
+roundedText r =
+    roundText (r .answer) (servicesText (r .services) ++ countsText (r .totals))
+
+unfoldable pub roundService : Page → RoundGiven → Service
+roundService p g =
+    record {
+      controller = g .rounded .controller;
+      used = g .rounded .totals .used;
+      written = g .rounded .totals .written;
+      memory = g .memory;
+      room = g .room;
+      page = put p (roundedText (g .rounded));
+    }
+
+abbrev pub roundReply : Controller → List ℕ → List ℕ → List ℕ → Page → List ℕ → Service
+roundReply c m device room p count =
+    numbered (numberOf wordMost count) (λ (k : ℕ). roundService p (roundedOf c m device room k)) (unserved c m room p)

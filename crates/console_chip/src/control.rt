@@ -1,0 +1,222 @@
+// The commands on the controller.
+use am9517::Controller;
+use crate::answers::Spoken;
+use crate::answers::agree;
+use crate::answers::bytes_said;
+use crate::answers::fault;
+use crate::answers::ok;
+use crate::answers::refused;
+use crate::answers::tell;
+use am9517_sheet::BODY;
+use am9517_sheet::SheetAnswer;
+use am9517_sheet::body_of;
+use am9517_sheet::state_of;
+use console_text::hex::is_bytes;
+use console_text::hex::store;
+use console_text::numbers::Number;
+use console_text::numbers::number_of;
+use console_text::page::copies;
+use console_text::page::hex;
+use console_text::page::text;
+ghost use mathlib.Core.Path.{_≡_};
+ghost use Prim.Native.Nat.{_≤_};
+ghost use lib.ListN.{length};
+ghost use Rattle.am9517.specs.State.{fresh};
+ghost use Rattle.am9517.specs.Answers.{resetOf, grantOf};
+ghost use Rattle.console_text.specs.Text.{page, put};
+ghost use Rattle.console_chip.specs.Answers.{okText, bytesAnswer, reply, outcomeReply, said, saying};
+ghost use mathlib.Core.Bool.{true, false};
+ghost use Rattle.console_chip.specs.Control.{stateText, sheetSaid, sheetText, writeReply, readReply, pinsReply, stateReply, sheetReply, loadReply, replyTo};
+
+// The largest register number, limit or count that a command takes.
+const WORD: u32 = 0xffff_ffff;
+
+fn state(c: Controller, out: &mut [u8], at: usize) -> usize
+    ensures { λ r. ⌜ page (now (out .exit)) r ≡ put (page (now (out .entry)) at) (stateText c) ⌝ }
+{
+    let body = body_of(c);
+    let next = text(out, at, b"state ");
+    hex(out, next, &body)
+}
+
+fn set_state(c: Controller, digits: &[u8], out: &mut [u8], at: usize) -> Spoken
+    ensures { λ r. ⌜ said r (now (out .exit)) ≡ saying (page (now (out .entry)) at) (stateReply c (now (digits .entry))) ⌝ }
+{
+    if !is_bytes(digits) {
+        return fault(out, at, c);
+    }
+    if digits.len() != 2 * BODY {
+        return fault(out, at, c);
+    }
+    let mut body = [0u8; BODY];
+    store(&mut body, 0, digits);
+    let next = state_of(body);
+    agree(out, at, next)
+}
+
+fn make_fresh(out: &mut [u8], at: usize) -> Spoken
+    ensures { λ r. ⌜ said r (now (out .exit)) ≡ saying (page (now (out .entry)) at) (reply fresh okText) ⌝ }
+{
+    let next = Controller::fresh();
+    agree(out, at, next)
+}
+
+fn write(c: Controller, reg: &[u8], byte: &[u8], out: &mut [u8], at: usize) -> Spoken
+    ensures { λ r. ⌜ said r (now (out .exit)) ≡ saying (page (now (out .entry)) at) (writeReply c (now (reg .entry)) (now (byte .entry))) ⌝ }
+{
+    let place = number_of(reg, WORD);
+    let said = number_of(byte, 255);
+    match place {
+        Number::Value(r) => match said {
+            Number::Value(b) => {
+                let done = c.write(r, b as u8);
+                tell(out, at, done, false)
+            }
+            Number::Bad => fault(out, at, c),
+        },
+        Number::Bad => fault(out, at, c),
+    }
+}
+
+fn read(c: Controller, reg: &[u8], out: &mut [u8], at: usize) -> Spoken
+    ensures { λ r. ⌜ said r (now (out .exit)) ≡ saying (page (now (out .entry)) at) (readReply c (now (reg .entry))) ⌝ }
+{
+    let place = number_of(reg, WORD);
+    match place {
+        Number::Value(r) => {
+            let done = c.read(r);
+            tell(out, at, done, false)
+        }
+        Number::Bad => fault(out, at, c),
+    }
+}
+
+fn pins(c: Controller, levels: &[u8], out: &mut [u8], at: usize) -> Spoken
+    ensures { λ r. ⌜ said r (now (out .exit)) ≡ saying (page (now (out .entry)) at) (pinsReply c (now (levels .entry))) ⌝ }
+{
+    let said = number_of(levels, WORD);
+    match said {
+        Number::Value(p) => {
+            let done = c.pins(p);
+            tell(out, at, done, false)
+        }
+        Number::Bad => fault(out, at, c),
+    }
+}
+
+fn reset(c: Controller, out: &mut [u8], at: usize) -> Spoken
+    ensures { λ r. ⌜ said r (now (out .exit)) ≡ saying (page (now (out .entry)) at) (outcomeReply false (resetOf c)) ⌝ }
+{
+    let done = c.reset();
+    tell(out, at, done, false)
+}
+
+fn grant(c: Controller, out: &mut [u8], at: usize) -> Spoken
+    ensures { λ r. ⌜ said r (now (out .exit)) ≡ saying (page (now (out .entry)) at) (outcomeReply true (grantOf c)) ⌝ }
+{
+    let done = c.grant();
+    tell(out, at, done, true)
+}
+
+fn sheet_said(answer: SheetAnswer, bytes: &[u8], out: &mut [u8], at: usize) -> usize
+    ensures { λ r. ⌜ page (now (out .exit)) r ≡ put (page (now (out .entry)) at) (sheetSaid answer (bytesAnswer (now (bytes .entry)))) ⌝ }
+{
+    match answer {
+        SheetAnswer::Done => bytes_said(out, at, bytes),
+        SheetAnswer::Refused(n) => refused(out, at, n),
+    }
+}
+
+fn load_said(answer: SheetAnswer, out: &mut [u8], at: usize) -> usize
+    ensures { λ r. ⌜ page (now (out .exit)) r ≡ put (page (now (out .entry)) at) (sheetSaid answer okText) ⌝ }
+{
+    match answer {
+        SheetAnswer::Done => ok(out, at),
+        SheetAnswer::Refused(n) => refused(out, at, n),
+    }
+}
+
+// The sheet is written into the first n bytes of `spare`.
+fn sheet_of(c: Controller, n: usize, spare: &mut [u8], out: &mut [u8], at: usize) -> usize
+    requires { ⌜ n ≤ length (now spare) ⌝ }
+    ensures { λ r. ⌜ page (now (out .exit)) r ≡ put (page (now (out .entry)) at) (sheetText c n) ⌝ }
+{
+    let slice = &mut spare[0..n];
+    copies(slice, 0, n, 0xEE);
+    let answer = am9517_sheet::write(c, slice);
+    sheet_said(answer, slice, out, at)
+}
+
+fn sheet(c: Controller, size: &[u8], spare: &mut [u8], out: &mut [u8], at: usize) -> Spoken
+    ensures { λ r. ⌜ said r (now (out .exit)) ≡ saying (page (now (out .entry)) at) (sheetReply (length (now (spare .entry))) c (now (size .entry))) ⌝ }
+{
+    let said = number_of(size, 70000);
+    match said {
+        Number::Value(n) => {
+            let n = n as usize;
+            if spare.len() < n {
+                return fault(out, at, c);
+            }
+            let next = sheet_of(c, n, spare, out, at);
+            Spoken {
+                controller: c,
+                at: next,
+            }
+        }
+        Number::Bad => fault(out, at, c),
+    }
+}
+
+fn load(c: Controller, digits: &[u8], spare: &mut [u8], out: &mut [u8], at: usize) -> Spoken
+    ensures { λ r. ⌜ said r (now (out .exit)) ≡ saying (page (now (out .entry)) at) (loadReply (length (now (spare .entry))) c (now (digits .entry))) ⌝ }
+{
+    if !is_bytes(digits) {
+        return fault(out, at, c);
+    }
+    let n = digits.len() / 2;
+    if spare.len() < n {
+        return fault(out, at, c);
+    }
+    store(spare, 0, digits);
+    let told = am9517_sheet::read(c, &spare[0..n]);
+    let controller = told.controller;
+    let answer = told.answer;
+    let next = load_said(answer, out, at);
+    Spoken {
+        controller,
+        at: next,
+    }
+}
+
+// Commands 1 to 10.
+pub fn on_controller(
+    c: Controller,
+    form: u8,
+    one: &[u8],
+    two: &[u8],
+    spare: &mut [u8],
+    out: &mut [u8],
+    at: usize,
+) -> Spoken
+    ensures { λ r. ⌜ said r (now (out .exit)) ≡ saying (page (now (out .entry)) at) (replyTo form c (now (one .entry)) (now (two .entry)) (length (now (spare .entry)))) ⌝ }
+{
+    match form {
+        1 => {
+            let next = state(c, out, at);
+            Spoken {
+                controller: c,
+                at: next,
+            }
+        }
+        2 => set_state(c, one, out, at),
+        3 => make_fresh(out, at),
+        4 => write(c, one, two, out, at),
+        5 => read(c, one, out, at),
+        6 => pins(c, one, out, at),
+        7 => reset(c, out, at),
+        8 => grant(c, out, at),
+        9 => sheet(c, one, spare, out, at),
+        10 => load(c, one, spare, out, at),
+        _ => fault(out, at, c),
+    }
+}

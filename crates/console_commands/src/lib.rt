@@ -1,0 +1,35 @@
+// The commands of a line, on all that the console holds.
+use am9517::Controller;
+
+mod command;
+mod device;
+mod holding;
+mod services;
+
+pub use command::execute;
+pub use holding::Executed;
+
+// What the console holds beside its arrays: the controller; how many bytes of memory are lent; where the queue begins and
+// ends in its array; the room's size and its write position.
+pub struct Console {
+    pub controller: Controller,
+    pub lent: usize,
+    pub start: usize,
+    pub end: usize,
+    pub size: usize,
+    pub written: usize,
+}
+
+impl Console {
+    pub fn fresh() -> Console {
+        let controller = Controller::fresh();
+        Console {
+            controller,
+            lent: 65536,
+            start: 0,
+            end: 0,
+            size: 0,
+            written: 0,
+        }
+    }
+}

@@ -1,0 +1,30 @@
+-- Laws of words of a line.
+use Prim.Native.Nat.{ℕ, _+_, _≤_, _<_}
+use mathlib.Core.Path.{_≡_, refl}
+use mathlib.Core.Bool.{Bool, true, false}
+use mathlib.Core.List.{List, [], _∷_}
+use native.Mathlib.Omega.{arith}
+use lib.ListN.{length, getD, drop}
+use Rattle.words.specs.Choice.{when}
+use Rattle.console_text.specs.Lines.{run, endOf}
+use Rattle.console_text.proofs.TextLaws.{drop-next, drop-end}
+
+module _ (test : ℕ → Bool) (s : List ℕ) (i : ℕ) where
+  -- at the end of the text
+  pub run-end : length s ≤ i → run test (drop i s) ≡ 0
+  unfolding run
+  run-end h = rw (drop-end s i h)
+
+  pub run-next : i < length s → test (getD s i 0) ≡ true → run test (drop i s) ≡ run test (drop (i + 1) s) + 1
+  unfolding run when
+  run-next h e = rw (drop-next s i h, e)
+
+  pub run-stop : i < length s → test (getD s i 0) ≡ false → run test (drop i s) ≡ 0
+  unfolding run when
+  run-stop h e = rw (drop-next s i h, e)
+
+-- an empty line
+pub end-none : (s : List ℕ) → length s ≡ 0 → (0 ≡ endOf s) × (0 ≤ length s)
+unfolding endOf when
+end-none [] h = (refl, omega arith)
+end-none (x ∷ xs) h = absurd (omega arith)

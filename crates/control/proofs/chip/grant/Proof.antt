@@ -1,9 +1,0 @@
-use borrow.Author.Needs.{needs}
-use Rattle.control.proofs.chip.grant.Statement.{statement}
-use Rattle.control.proofs.chip.grant.Tie as tie
-
-returns : tie.Need-returns
-returns c = rw (c .before .before .before .before .grant .ensures) at (c .before .before .tell .ensures)
-
-pub grant-spec : {M : Type 1} → statement M
-grant-spec = tie.close (tie.spec (search needs) (search needs) (search needs) returns)

@@ -1,2 +1,0 @@
--- The commands on the controller, from the protocol's page.
-pub mod Control

@@ -1,4 +1,0 @@
-// The commands on the controller.
-mod chip;
-
-pub use chip::on_controller;

@@ -1,2 +1,0 @@
--- The commands of the protocol's page.
-pub mod Commands

@@ -1,2 +1,0 @@
--- The commands run and round, from the protocol's page.
-pub mod Services

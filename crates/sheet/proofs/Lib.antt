@@ -1,6 +1,0 @@
--- Laws of bytes in lists, of bodies and of trailers, and the theorems about sheets.
-pub mod BytesLaws
-pub mod TrailerLaws
-pub mod BodyLaws
-pub mod SheetLaws
-pub mod Trips

@@ -1,6 +1,0 @@
--- Document 01, "The stored sheet": a body, and a trailer that tells its form, the distance back to it and the sum of its bytes.
-pub mod Form
-pub mod Bytes
-pub mod Body
-pub mod Trailer
-pub mod Sheet
