@@ -40,7 +40,8 @@ use Rattle.am9517_sheet.specs.Body.{bodyOf, stateOf}
 use Rattle.am9517_sheet.specs.Sheet.{answerOf}
 use Rattle.demands.specs.Lists.{All, none, also}
 use Rattle.demands.specs.Operations.{Grant, Run, Round, SheetWriting, SheetReading, next, afterAll, said}
-use Rattle.demands.specs.Fairness.{Granted, told, grants, channels, Contends}
+use Rattle.demands.specs.Grants.{Granted, told, grants, channels}
+use Rattle.demands.specs.Fairness.{Contends}
 use Rattle.demands.specs.Cases.{Holds, services, setUp, idleWith, ch, proved, whole, limits, WorkedCases, Tight, p5, p6}
 use Rattle.words.proofs.ChoiceLaws.{when-hit, never}
 use Rattle.am9517_service.proofs.AnswerLaws.{run-accepted}

@@ -2,7 +2,12 @@
 pub mod Refusals
 pub mod Outcomes
 pub mod Turns
-pub mod Fairness
+pub mod StopLaws
 pub mod Rounds
+pub mod Fairness
+pub mod AccessLaws
+pub mod Ranges
+pub mod Calls
 pub mod Cases
 pub mod Sheets
+pub mod Owner

@@ -41,11 +41,11 @@ unfolding first when
 first-is n gs (here e same) = rw e same
 first-is n gs (later {gs = rest} e f) = rw e (first-is n rest f)
 
-refusal-exactly : (gs : List (Ground ℕ)) (n : ℕ) → ¬ (n ≡ 0) → (refusal gs ≡ n) ↔ First n gs
+pub refusal-exactly : (gs : List (Ground ℕ)) (n : ℕ) → ¬ (n ≡ 0) → (refusal gs ≡ n) ↔ First n gs
 unfolding refusal
 refusal-exactly gs n h = (first-of n h gs, first-is n gs)
 
-abbrev Zeros : List ℕ → Type 0
+abbrev pub Zeros : List ℕ → Type 0
 Zeros = All (λ (n : ℕ). n ≡ 0)
 
 -- from an answer that says the number of the first ground, and a refusal by that number that changes nothing

@@ -2,60 +2,36 @@
 use Prim.Native.Nat.{ℕ, _+_, _/_, _≤_, _<_}
 use mathlib.Core.Path.{_≡_}
 use mathlib.Core.Bool.{true}
-use mathlib.Core.List.{List, [], _∷_, _++_, map}
+use mathlib.Core.List.{List, [], _∷_, _++_}
 use lib.ListN.{length}
 use Rattle.am9517.specs.Modes.{rotating}
 use Rattle.am9517.specs.Serving.{entitled}
-use Rattle.am9517.specs.Answers.{grantOf}
 use Rattle.am9517.specs.declared.Controller.{Controller}
-use Rattle.am9517.specs.declared.Answer.{Answer}
-use Rattle.am9517.specs.declared.Answer.the-variants.{Done, Value, Refused}
 use Rattle.demands.specs.Lists.{All, count}
-use Rattle.demands.specs.Operations.{Op, Write, Read, Pins, Reset, Grant, Run, Round, SheetWriting, SheetReading, next}
+use Rattle.demands.specs.Operations.{Op, Write, Read, Pins, Reset, Grant, Run, Round, SheetWriting, SheetReading, next, said}
+use Rattle.demands.specs.Grants.{Granted, grants, channels}
+use Rattle.demands.specs.Rounds.{calls, reported, callsOf, spelled}
 
--- An operation of a trace: no reset, no master clear (a write of register 13), no sheet reading.
--- (A round stands in a trace as the grants and runs that it is made of: Rounds.antt.)
-abbrev pub Traced : Op → Type 0
-Traced (Write r b) = ¬ (r ≡ 13)
-Traced (Read r) = Unit
-Traced (Pins p) = Unit
-Traced Reset = ⊥
-Traced Grant = Unit
-Traced (Run m d r limit eop) = Unit
-Traced (Round m d r k) = ⊥
-Traced (SheetWriting out) = Unit
-Traced (SheetReading bytes) = ⊥
+-- reset, master clear (a write of register 13) and sheet reading
+abbrev pub Restarts : Op → Type 0
+Restarts (Write r b) = r ≡ 13
+Restarts (Read r) = ⊥
+Restarts (Pins p) = ⊥
+Restarts Reset = Unit
+Restarts Grant = ⊥
+Restarts (Run m d r limit eop) = ⊥
+Restarts (Round m d r k) = ⊥
+Restarts (SheetWriting out) = ⊥
+Restarts (SheetReading bytes) = Unit
 
--- A grant: the state that it was made in, and the channel that it went to.
-pub record Granted : Type 0 where
-  pub before : Controller
-  pub channel : ℕ
+-- An operation of a trace, called in state s: none of these three, or refused.
+abbrev pub Traced : Controller → Op → Type 0
+Traced s op = Restarts op → ¬ (said s op ≡ 0)
 
--- the grant that this answer of `grant` tells of; a refusal is none
-abbrev pub told : Controller → Answer → List Granted
-told s Done = []
-told s (Value n) = record { before = s; channel = n } ∷ []
-told s (Refused n) = []
-
-abbrev pub made : Controller → Op → List Granted
-made s (Write r b) = []
-made s (Read r) = []
-made s (Pins p) = []
-made s Reset = []
-made s Grant = told s (grantOf s .answer)
-made s (Run m d r limit eop) = []
-made s (Round m d r k) = []
-made s (SheetWriting out) = []
-made s (SheetReading bytes) = []
-
--- the grants made, in order, when these operations are called one after the other from state s on
-abbrev pub grants : Controller → List Op → List Granted
-grants s [] = []
-grants s (op ∷ ops) = made s op ++ grants (next s op) ops
-
--- the channels that they went to
-abbrev pub channels : List Granted → List ℕ
-channels gs = map (λ (g : Granted). g .channel) gs
+-- operations of a trace, called one after the other from state s on
+abbrev pub Trace : Controller → List Op → Type 0
+Trace s [] = Unit
+Trace s (op ∷ ops) = Traced s op × Trace (next s op) ops
 
 -- rotation is on, and channel c is entitled
 pub record Contends (c : ℕ) (g : Granted) : Type 0 where
@@ -71,15 +47,30 @@ pub record Fair (c : ℕ) (served : List ℕ) : Type 0 where
   -- and no other channel gets more than one above its number.
   pub lead : (d : ℕ) → ¬ (d ≡ c) → count d served ≤ count c served + 1
 
--- Whatever is called from whatever state, accepted or refused, in whatever order: a channel that contends at each grant is served fairly.
+-- Whatever is called from whatever state, accepted or refused, in whatever order, rounds among it: in any stretch of successive grants,
+-- cut where you like, inside a round too, a channel that contends at each is served fairly.
 abbrev pub Demand3 : Type 0
 Demand3 =
-    (s : Controller) (ops : List Op) (c : ℕ)
+    (s : Controller) (ops : List Op) (c : ℕ) (past window rest : List Granted)
     → c < 4
-    → All Traced ops
-    → All (Contends c) (grants s ops)
-    → Fair c (channels (grants s ops))
+    → Trace s ops
+    → grants s (spelled s ops) ≡ past ++ (window ++ rest)
+    → All (Contends c) window
+    → Fair c (channels window)
 
--- Every operation of a trace keeps the lowest channel, except a grant.
+-- Channel c is served fairly by what a round reports: at least a quarter of all, and led by one at most.
+pub record FairReport (c : ℕ) (services : ℕ → ℕ) : Type 0 where
+  pub share : (services 0 + services 1 + services 2 + services 3) / 4 ≤ services c
+  pub lead : (d : ℕ) → ¬ (d ≡ c) → services d ≤ services c + 1
+
+-- A round in which channel c contends at each grant reports so.
+abbrev pub Demand3Reported : Type 0
+Demand3Reported =
+    (s : Controller) (m d r : List ℕ) (k c : ℕ)
+    → c < 4
+    → All (Contends c) (grants s (calls s m d r k))
+    → FairReport c (reported s m d r k)
+
+-- An operation of a trace that makes no grant keeps the lowest channel.
 abbrev pub LowestKept : Type 0
-LowestKept = (s : Controller) (op : Op) → Traced op → ¬ (op ≡ Grant) → next s op .lowest ≡ s .lowest
+LowestKept = (s : Controller) (op : Op) → Traced s op → grants s (callsOf s op) ≡ [] → next s op .lowest ≡ s .lowest

@@ -1,9 +1,13 @@
--- The owner's demands. 1: Refusals. 2: Outcomes, Cases, Sheets. 3: Fairness, Rounds. Operations names what they speak of.
+-- The owner's demands, all in Owner. 1: Refusals, Calls. 2: Outcomes, Cases, Sheets, Ranges. 3: Fairness, over Grants and Rounds. Operations names what they speak of.
 pub mod Lists
 pub mod Operations
 pub mod Refusals
 pub mod Outcomes
-pub mod Fairness
+pub mod Grants
 pub mod Rounds
+pub mod Fairness
+pub mod Ranges
+pub mod Calls
 pub mod Cases
 pub mod Sheets
+pub mod Owner

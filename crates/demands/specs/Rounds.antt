@@ -1,61 +1,133 @@
--- Demand 3 for rounds: a round is its grants and runs, and the services that it reports are fair.
-use Prim.Native.Nat.{ℕ, zero, suc, _+_, _/_, _≤_, _<_}
+-- A round is its calls, in all that it leaves and says; and operations with rounds among them, each round spelled as its calls.
+use Prim.Native.Nat.{ℕ, zero, suc, _<_}
 use mathlib.Core.Path.{_≡_}
-use mathlib.Core.Bool.{not}
+use mathlib.Core.Bool.{Bool, false, not}
 use mathlib.Core.List.{List, [], _∷_, _++_}
 use lib.Dec.{eqb}
-use lib.ListN.{getD, drop}
+use lib.ListN.{length, getD, take, drop}
 use Rattle.words.specs.Choice.{when}
 use Rattle.words.specs.Grounds.{_if_, first}
+use Rattle.am9517.specs.Fields.{channel}
 use Rattle.am9517.specs.Refusals.{refusal}
 use Rattle.am9517.specs.declared.Controller.{Controller}
-use Rattle.am9517_service.specs.Round.{Course, beginning, nobody, runNext, afterNext, isEnded}
+use Rattle.am9517_service.specs.declared.Counts.{Counts}
+use Rattle.am9517_service.specs.declared.Reason.the-variants.{Ended, Dropped, Limit}
+use Rattle.am9517_service.specs.declared.RunAnswer.{RunAnswer}
+use Rattle.am9517_service.specs.declared.RunAnswer.the-variants as run
+use Rattle.am9517_service.specs.declared.RoundAnswer.{RoundAnswer}
+use Rattle.am9517_service.specs.declared.RoundAnswer.the-variants.{Done, Quiet, Stopped, Refused}
+use Rattle.am9517_service.specs.Counts.{none, plus}
+use Rattle.am9517_service.specs.Answers.{Given, ranOf}
+use Rattle.am9517_service.specs.Round.{nobody, isEnded}
 use Rattle.am9517_service.specs.RoundAnswers.{roundGrounds, roundedOf}
-use Rattle.demands.specs.Lists.{All, count}
-use Rattle.demands.specs.Operations.{Op, Write, Read, Pins, Reset, Grant, Run, Round, SheetWriting, SheetReading, next, afterAll}
-use Rattle.demands.specs.Fairness.{Traced, grants, channels, Contends, Fair}
+use Rattle.demands.specs.Lists.{count}
+use Rattle.demands.specs.Operations.{Op, Write, Read, Pins, Reset, Grant, Run, Round, SheetWriting, SheetReading, next, afterAll, said}
+use Rattle.demands.specs.Grants.{grants, channels}
 
--- the calls of a round that has come so far and may begin left more services: grant, run, grant, run
-unfoldable pub callsFrom : ℕ → List ℕ → Course → List Op
-callsFrom zero d w = []
-callsFrom (suc left) d w =
-    first ([] if nobody (w .controller) ∷ [])
+-- the run stopped, and its service ended
+abbrev pub hasEnded : RunAnswer → Bool
+hasEnded (run.Stopped e) = isEnded e
+hasEnded (run.Refused n) = false
+
+-- "up to k services .., grant then run, limit 65,536, no EOP. The device bytes not yet used are handed on to the next run, and so is
+-- the room behind the last byte written." The calls of a round that may begin so many more services.
+unfoldable pub callsFrom : ℕ → Controller → List ℕ → List ℕ → List ℕ → List Op
+callsFrom zero s m d r = []
+callsFrom (suc left) s m d r =
+    let g = ranOf (next s Grant) m d r 65536 0 in
+    first ([] if nobody s ∷ [])
     (Grant
-    ∷ Run (w .memory) (drop (w .totals .used) d) (drop (w .totals .written) (w .room)) 65536 0
-    ∷ first ([] if not (isEnded (runNext w d .reason)) ∷ []) (callsFrom left d (afterNext w d)))
+    ∷ Run m d r 65536 0
+    ∷ first ([] if not (hasEnded (g .ran .answer)) ∷ [])
+    (callsFrom left (g .ran .controller) (g .memory) (drop (g .ran .counts .used) d) (drop (g .ran .counts .written) (g .room))))
 
 -- the calls of a round; a refused one makes none
 abbrev pub calls : Controller → List ℕ → List ℕ → List ℕ → ℕ → List Op
-calls s m d r k = when (eqb (refusal (roundGrounds s m k)) 0) (callsFrom k d (beginning s m r)) []
+calls s m d r k = when (eqb (refusal (roundGrounds s m k)) 0) (callsFrom k s m d r) []
+
+-- what a call of run gives; other calls give none
+abbrev pub gave : Controller → Op → List Given
+gave s (Write r b) = []
+gave s (Read r) = []
+gave s (Pins p) = []
+gave s Reset = []
+gave s Grant = []
+gave s (Run m d r limit eop) = ranOf s m d r limit eop ∷ []
+gave s (Round m d r k) = []
+gave s (SheetWriting out) = []
+gave s (SheetReading bytes) = []
+
+-- what the runs among these calls give, in their order
+abbrev pub runs : Controller → List Op → List Given
+runs s [] = []
+runs s (op ∷ ops) = gave s op ++ runs (next s op) ops
+
+-- the memory that the last of them leaves; with none, m
+abbrev pub memoryBehind : List ℕ → List Given → List ℕ
+memoryBehind m [] = m
+memoryBehind m (g ∷ gs) = memoryBehind (g .memory) gs
+
+-- the room: the bytes that each wrote, one run's behind the other's, and behind them what the last leaves; with none, r
+abbrev pub roomBehind : List ℕ → List Given → List ℕ
+roomBehind r [] = r
+roomBehind r (g ∷ gs) = take (g .ran .counts .written) (g .room) ++ roomBehind (drop (g .ran .counts .written) (g .room)) gs
+
+-- the sums of their four counts
+abbrev pub sums : List Given → Counts
+sums [] = none
+sums (g ∷ gs) = plus (g .ran .counts) (sums gs)
+
+-- what the last of them answers; with none, a
+abbrev pub lastAnswer : RunAnswer → List Given → RunAnswer
+lastAnswer a [] = a
+lastAnswer a (g ∷ gs) = lastAnswer (g .ran .answer) gs
+
+-- "It stops, in this order after each run: not "ended" (its reason); k begun ("done"); nobody entitled ("quiet")."
+abbrev pub closing : RunAnswer → Bool → RoundAnswer
+closing (run.Stopped e) done = when (isEnded e) (when done Done Quiet) (Stopped e)
+closing (run.Refused n) done = Refused n
+
+-- none of these calls is refused
+abbrev pub Accepted : Controller → List Op → Type 0
+Accepted s [] = Unit
+Accepted s (op ∷ ops) = (said s op ≡ 0) × Accepted (next s op) ops
 
 -- the services that a round reports for channel n
 abbrev pub reported : Controller → List ℕ → List ℕ → List ℕ → ℕ → ℕ → ℕ
 reported s m d r k n = getD (roundedOf s m d r k .rounded .services) n 0
 
--- A round is its calls: it leaves the controller that they leave, and reports the grants that they make.
-pub record IsCalls (s : Controller) (m d r : List ℕ) (k : ℕ) : Type 0 where
-  pub leaves : next s (Round m d r k) ≡ afterAll s (calls s m d r k)
-  pub reports : (n : ℕ) → reported s m d r k n ≡ count n (channels (grants s (calls s m d r k)))
+-- The round is these calls:
+pub record IsCalls (s : Controller) (m d r : List ℕ) (k : ℕ) (ops : List Op) : Type 0 where
+  -- none of them is refused;
+  pub accepted : Accepted s ops
+  -- it leaves the controller, the memory and the room that they leave;
+  pub leaves : next s (Round m d r k) ≡ afterAll s ops
+  pub memory : roundedOf s m d r k .memory ≡ memoryBehind m (runs s ops)
+  pub room : roundedOf s m d r k .room ≡ roomBehind r (runs s ops)
+  -- it reports the grants that they make, and the sums of what their runs count;
+  pub reports : (n : ℕ) → reported s m d r k n ≡ count n (channels (grants s ops))
+  pub totals : roundedOf s m d r k .rounded .totals ≡ sums (runs s ops)
+  -- and, unless refused, it answers by their last run, or by whether k services were begun.
+  pub answers : said s (Round m d r k) ≡ 0
+      → roundedOf s m d r k .rounded .answer ≡ closing (lastAnswer (run.Stopped Ended) (runs s ops)) (eqb (length (grants s ops)) k)
 
+-- A round is its calls.
 abbrev pub RoundIsCalls : Type 0
-RoundIsCalls = (s : Controller) (m d r : List ℕ) (k : ℕ) → IsCalls s m d r k
+RoundIsCalls = (s : Controller) (m d r : List ℕ) (k : ℕ) → IsCalls s m d r k (calls s m d r k)
 
--- Channel c is served fairly by what the round reports: at least a quarter of all, and led by one at most.
-pub record FairReport (c : ℕ) (services : ℕ → ℕ) : Type 0 where
-  pub share : (services 0 + services 1 + services 2 + services 3) / 4 ≤ services c
-  pub lead : (d : ℕ) → ¬ (d ≡ c) → services d ≤ services c + 1
+-- Counts fit 16 bits: the type of the fields, which every controller has.
+abbrev pub Words : Controller → Type 0
+Words s = (n : ℕ) → (channel s n .count < 65536) × (channel s n .«base_count» < 65536)
 
-pub record FairRound (c : ℕ) (s : Controller) (m d r : List ℕ) (k : ℕ) : Type 0 where
-  pub order : Fair c (channels (grants s (calls s m d r k)))
-  pub report : FairReport c (reported s m d r k)
+-- These three reasons never come out of a round: a service that is granted has its line or its software request, its count meets TC
+-- within 65,536 transfers, and behind one that "ended" it goes on, or says "done" or "quiet".
+pub record RoundNeverStops (s : Controller) (m d r : List ℕ) (k : ℕ) : Type 0 where
+  pub dropped : ¬ (roundedOf s m d r k .rounded .answer ≡ Stopped Dropped)
+  pub limit : Words s → ¬ (roundedOf s m d r k .rounded .answer ≡ Stopped Limit)
+  pub ended : ¬ (roundedOf s m d r k .rounded .answer ≡ Stopped Ended)
 
--- A round in which channel c contends at each grant serves it fairly.
-abbrev pub Demand3OfRounds : Type 0
-Demand3OfRounds =
-    (s : Controller) (m d r : List ℕ) (k c : ℕ)
-    → c < 4
-    → All (Contends c) (grants s (calls s m d r k))
-    → FairRound c s m d r k
+abbrev pub RoundStops : Type 0
+RoundStops = (s : Controller) (m d r : List ℕ) (k : ℕ) → RoundNeverStops s m d r k
 
 -- Rounds among other operations: each stands for its calls.
 abbrev pub callsOf : Controller → Op → List Op
@@ -73,22 +145,6 @@ abbrev pub spelled : Controller → List Op → List Op
 spelled s [] = []
 spelled s (op ∷ ops) = callsOf s op ++ spelled (next s op) ops
 
--- an operation of a trace, or a round
-abbrev pub TracedOrRound : Op → Type 0
-TracedOrRound (Write r b) = Traced (Write r b)
-TracedOrRound (Read r) = Unit
-TracedOrRound (Pins p) = Unit
-TracedOrRound Reset = ⊥
-TracedOrRound Grant = Unit
-TracedOrRound (Run m d r limit eop) = Unit
-TracedOrRound (Round m d r k) = Unit
-TracedOrRound (SheetWriting out) = Unit
-TracedOrRound (SheetReading bytes) = ⊥
-
--- Demand 3 for any operations with rounds among them, and they lead where the calls lead.
-pub record FairWithRounds (c : ℕ) (s : Controller) (ops : List Op) : Type 0 where
-  pub leaves : afterAll s ops ≡ afterAll s (spelled s ops)
-  pub fair : All (Contends c) (grants s (spelled s ops)) → Fair c (channels (grants s (spelled s ops)))
-
-abbrev pub Demand3WithRounds : Type 0
-Demand3WithRounds = (s : Controller) (ops : List Op) (c : ℕ) → c < 4 → All TracedOrRound ops → FairWithRounds c s ops
+-- They lead where the calls lead.
+abbrev pub SpelledLeads : Type 0
+SpelledLeads = (s : Controller) (ops : List Op) → afterAll s ops ≡ afterAll s (spelled s ops)

@@ -1,13 +1,13 @@
 -- Demand 2, the stored sheet: both round trips, and the sheet of a fresh controller.
-use Prim.Native.Nat.{ℕ}
+use Prim.Native.Nat.{ℕ, _-_, _≤_}
 use mathlib.Core.Path.{_≡_}
 use mathlib.Core.List.{List, [], _∷_, _++_}
-use lib.ListN.{length, replicate}
+use lib.ListN.{length, take, replicate}
 use Rattle.am9517.specs.State.{fresh}
 use Rattle.am9517.specs.declared.Controller.{Controller}
 use Rattle.am9517_sheet.specs.declared.SheetAnswer.the-variants.{Done}
 use Rattle.am9517_sheet.specs.declared.forms.Form.the-variants.{One}
-use Rattle.am9517_sheet.specs.Bytes.{OfBytes}
+use Rattle.am9517_sheet.specs.Bytes.{last, OfBytes}
 use Rattle.am9517_sheet.specs.Sheet.{sheetOf, stored, sheetWriteOf, sheetReadOf}
 
 -- Four channels and bytes below 256 are the types [Channel; 4] and [u8]: every controller and every slice has them.
@@ -17,7 +17,13 @@ pub record RoundTrips : Type 0 where
       → length (s .channels) ≡ 4
       → sheetWriteOf One s out .answer ≡ Done
       → sheetReadOf One t (sheetWriteOf One s out .bytes) ≡ record { controller = s; answer = Done }
-  -- What was read is written back: the slice holds the same bytes.
+  -- What was read is written back into any slice that has room: its last 56 bytes become the sheet that was read, all before them stay;
+  pub readCopied : (t : Controller) (bytes out : List ℕ)
+      → OfBytes bytes
+      → sheetReadOf One t bytes .answer ≡ Done
+      → 56 ≤ length out
+      → sheetWriteOf One (sheetReadOf One t bytes .controller) out ≡ stored Done (take (length out - 56) out ++ last 56 bytes)
+  -- and into the slice that it was read from: it holds the same bytes.
   pub readWritten : (t : Controller) (bytes : List ℕ)
       → OfBytes bytes
       → sheetReadOf One t bytes .answer ≡ Done

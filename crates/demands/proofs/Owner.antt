@@ -1,0 +1,30 @@
+-- All that the owner asked for, proved.
+use Rattle.demands.specs.Owner.{Owner}
+use Rattle.demands.proofs.Refusals.{demand-1}
+use Rattle.demands.proofs.Calls.{demand-1-of-calls, sheets-stay-good}
+use Rattle.demands.proofs.Outcomes.{one-outcome, one-outcome-where-asked}
+use Rattle.demands.proofs.Ranges.{ranges-kept}
+use Rattle.demands.proofs.Sheets.{round-trips}
+use Rattle.demands.proofs.Rounds.{round-is-calls, spelled-leads, round-stops}
+use Rattle.demands.proofs.Fairness.{demand-3, demand-3-reported, lowest-kept}
+use Rattle.demands.proofs.Cases.{worked-cases, tight}
+
+pub owner : Owner
+owner =
+    record {
+      refusals = demand-1;
+      refusalsInC = demand-1-of-calls;
+      oneOutcome = one-outcome;
+      oneOutcomeWhereAsked = one-outcome-where-asked;
+      cases = worked-cases;
+      sheetTrips = round-trips;
+      ranges = ranges-kept;
+      goodSheets = sheets-stay-good;
+      rounds = round-is-calls;
+      roundsAmongOthers = spelled-leads;
+      roundStops = round-stops;
+      fairness = demand-3;
+      fairReports = demand-3-reported;
+      lowest = lowest-kept;
+      tight = tight;
+    }
