@@ -114,7 +114,8 @@ def missed(measured):
     if over:
         out += ["Missed:", ""]
     for i in over:
-        value, target = number(bench.per_unit(measured.works, measured.counts, i, "proved")), measured.works[i].target.split()[0]
+        count, target = bench.per_unit(measured.works, measured.counts, i, "proved"), measured.works[i].target.split()[0]
+        value = number(count) if number(count) != target else f"{count:.2f}"
         out.append(f"- {measured.works[i].whole_label()}: {value}, asked for {target}")
     return out
 
