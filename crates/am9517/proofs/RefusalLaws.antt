@@ -1,6 +1,6 @@
 -- What an accepted call tells, and what an outcome's answer says.
 use Prim.Native.Nat.{ℕ, _%_, _≤_}
-use mathlib.Core.Path.{_≡_, refl, sym, _∙_}
+use mathlib.Core.Path.{_≡_, refl, sym, ap, _∙_}
 use mathlib.Core.Bool.{Bool, true, false}
 use native.Mathlib.Nat.{mod-eq-of-lt}
 use native.Mathlib.Omega.{arith}
@@ -12,6 +12,7 @@ use Rattle.am9517.specs.Ranges.{valid}
 use Rattle.am9517.specs.Refusals.{refusal, readGrounds, pinsGrounds}
 use Rattle.am9517.specs.Answers.{refusalNumber, outcome}
 use Rattle.am9517.specs.declared.Controller.{Controller}
+use Rattle.am9517.specs.declared.Outcome.{Outcome}
 use Rattle.am9517.specs.declared.Answer.{Answer}
 use Rattle.am9517.specs.declared.Answer.the-variants.{Refused}
 use Rattle.words.proofs.GroundLaws.{passed}
@@ -36,3 +37,8 @@ told-by n told false e h = refl
 pub number-told : (n : ℕ) (was next : Controller) (told : Answer) → refusalNumber told ≡ 0 → refusalNumber (outcome n was next told .answer) ≡ n
 unfolding outcome
 number-told n was next told h = told-by n told (eqb n 0) refl h
+
+-- so an outcome that is this one states this paper's number
+pub stated : (r : Outcome) (n : ℕ) (was next : Controller) (told : Answer) → refusalNumber told ≡ 0 → r ≡ outcome n was next told
+    → (r ≡ outcome n was next told) × (refusalNumber (r .answer) ≡ n)
+stated r n was next told h e = (e, ap (λ (o : Outcome). refusalNumber (o .answer)) e ∙ number-told n was next told h)

@@ -1,4 +1,5 @@
--- What each operation hands back, for all inputs. "Each returns its number only, and state, memory and buffers stay."
+-- What each operation hands back, for all inputs. "Every operation takes the state and hands the next one back": the state is the
+-- first argument of writeOf, readOf, pinsOf, resetOf and grantOf, and the next one a field of what they give.
 use Prim.Native.Nat.{ℕ}
 use lib.Dec.{eqb}
 use Rattle.words.specs.Choice.{when}
@@ -12,13 +13,15 @@ use Rattle.am9517.specs.declared.Answer.{Answer}
 use Rattle.am9517.specs.declared.Answer.the-variants.{Done, Value, Refused}
 use Rattle.am9517.specs.declared.Outcome.{Outcome}
 
--- the refusal number of each answer, 0 for none; a Value is the byte read or the channel granted
+-- "If an answer is an enum, the promises use a definition that states this paper's number and values for each of its cases": the refusal
+-- number of each answer, 0 for none; a Value is the byte read or the channel granted
 abbrev pub refusalNumber : Answer → ℕ
 refusalNumber Done = 0
 refusalNumber (Value v) = 0
 refusalNumber (Refused n) = n
 
--- refused by n: the paper's number, and the state as it was; or, with n zero, the next state and what is told of it
+-- refused by n: the paper's number, and the state as it was; or, with n zero, the next state and what is told of it.
+-- "Each returns its number only, and state, memory and buffers stay."
 unfoldable pub outcome : ℕ → Controller → Controller → Answer → Outcome
 outcome n was next told =
     record { controller = when (eqb n 0) next was; answer = when (eqb n 0) told (Refused n) }

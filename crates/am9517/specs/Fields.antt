@@ -1,4 +1,4 @@
--- The fields of the state, named and set: no rule stands here.
+-- The fields of the state, named and set.
 -- Field, tag, field and make are the only lines of this crate that list every field beside the channels: a new field is one line in each.
 use Prim.Native.Nat.{ℕ}
 use mathlib.Core.List.{List}
@@ -8,6 +8,9 @@ use lib.Dec.{eqb}
 use Rattle.am9517.specs.declared.Channel.{Channel}
 use Rattle.am9517.specs.declared.Controller.{Controller}
 
+-- "Beside them: command, four TC bits, four request bits, four mask bits, temporary byte, first/last flip-flop, four pin levels,
+-- the lowest channel, idle or in service, the serving channel, and the upper address byte last latched in this service, if any":
+-- LatchFull says whether there is one
 pub data Field : Type 0 where
   Command Tc Request Mask Temporary FlipFlop Pins Lowest InService Serving LatchFull Latch : Field
 
@@ -41,7 +44,7 @@ field s Serving = s .serving
 field s LatchFull = s .«latch_full»
 field s Latch = s .latch
 
--- the state of these channels and fields
+-- the state of these channels and fields: "It has four channels", by the type [Channel; 4] of src/lib.rt
 abbrev pub make : List Channel → (Field → ℕ) → Controller
 make cs f =
     record {
@@ -68,7 +71,7 @@ but f g v h = cond (eqb (tag g) (tag h)) v (f h)
 abbrev pub put : Controller → Field → ℕ → Controller
 put s g v = make (s .channels) (but (field s) g v)
 
--- a channel of zeros
+-- a channel of zeros: "each with base address, current address, base count, current count (16 bits each) and a mode byte"
 abbrev pub blank : Channel
 blank = record { «base_address» = 0; address = 0; «base_count» = 0; count = 0; mode = 0 }
 

@@ -5,7 +5,7 @@ use lib.Dec.{eqb}
 use Rattle.words.specs.Bits.{bit}
 
 -- of the command: "Bit 0 memory-to-memory, 1 channel 0 address hold, 2 disable, 3 compressed, 4 rotating, 6 DREQ active low."
--- "Bits 5 and 7 of the command are stored and have no other effect."
+-- "Bits 5 and 7 of the command are stored and have no other effect": a write stores the whole byte, and nothing asks these two.
 abbrev pub memoryToMemoryBit : ℕ → Bool
 memoryToMemoryBit command = eqb (bit command 0) 1
 
@@ -24,7 +24,7 @@ rotating command = eqb (bit command 4) 1
 abbrev pub activeLow : ℕ → Bool
 activeLow command = eqb (bit command 6) 1
 
--- of a mode byte: "Bits 3-2: 00 verify, 01 write (device to memory), 10 read, ignored in cascade"
+-- of a mode byte: "Bits 3-2: 00 verify, 01 write (device to memory), 10 read, ignored in cascade": there a run stops before it asks them
 abbrev pub transferBits : ℕ → ℕ
 transferBits mode = mode / 4 % 4
 

@@ -7,7 +7,7 @@ use Rattle.am9517.specs.Fields.{channel}
 use Rattle.am9517.specs.Modes.{modeRefused}
 use Rattle.am9517.specs.declared.Controller.{Controller}
 
--- "mode bits 1-0 zero and not refused by 5"
+-- "Ranges: mode bits 1-0 zero and not refused by 5"
 unfoldable pub modeValid : ℕ → Bool
 modeValid m = eqb (m % 4) 0 and not (modeRefused m)
 

@@ -65,7 +65,7 @@ portRead s r = byteOf (when (eqb (r % 2) 0) (channel s (r / 2) .address) (channe
 unfoldable pub modeWritten : Controller → ℕ → Controller
 modeWritten s b = withChannel s (b % 4) (withMode (channel s (b % 4)) (b - b % 4))
 
--- what an accepted write of b to register r stores. "8 write: command. 9 write: request bit of channel (bits 1-0) becomes bit 2.
+-- what an accepted write of b to register r stores. "8 write: command. .. 9 write: request bit of channel (bits 1-0) becomes bit 2.
 -- A write: the same for the mask bit. F write: bits 3-0 become the mask. B write: mode of channel (bits 1-0) .. C write clears the
 -- flip-flop. .. D write: master clear, as reset."
 unfoldable pub afterWrite : Controller → ℕ → ℕ → Controller
@@ -81,7 +81,7 @@ afterWrite s r b =
     ∷ put s Mask (b % 16) if eqb r 0xF
     ∷ []) s
 
--- what an accepted read of register r gives: 8 the status, D the temporary byte
+-- what an accepted read of register r gives: "8 read: status"; "D read: temporary byte."
 unfoldable pub value : Controller → ℕ → ℕ
 value s r = first (portRead s r if ltb r 8 ∷ status s if eqb r 8 ∷ []) (s .temporary)
 

@@ -7,7 +7,8 @@ use words::choice::when;
 use words::choice::when_word;
 ghost use mathlib.Core.Path.{_≡_};
 ghost use Rattle.am9517.specs.State.{fresh};
-ghost use Rattle.am9517.specs.Answers.{writeOf, readOf, pinsOf, resetOf, grantOf};
+ghost use Rattle.am9517.specs.Refusals.{refusal, writeGrounds, readGrounds, pinsGrounds, resetGrounds, grantGrounds};
+ghost use Rattle.am9517.specs.Answers.{refusalNumber, writeOf, readOf, pinsOf, resetOf, grantOf};
 
 pub mod modes;
 mod ranges;
@@ -88,7 +89,7 @@ impl Controller {
 
     // A byte is written to a register.
     pub fn write(self, reg: u32, byte: u8) -> Outcome
-        ensures { λ r. ⌜ r ≡ writeOf self reg byte ⌝ }
+        ensures { λ r. ⌜ (r ≡ writeOf self reg byte) × (refusalNumber (r .answer) ≡ refusal (writeGrounds self reg byte)) ⌝ }
     {
         // One copy that is changed in place, by a channel told by a variable, and one way out: so it is copied whole.
         let mut next = self;
@@ -128,7 +129,7 @@ impl Controller {
 
     // A register is read.
     pub fn read(self, reg: u32) -> Outcome
-        ensures { λ r. ⌜ r ≡ readOf self reg ⌝ }
+        ensures { λ r. ⌜ (r ≡ readOf self reg) × (refusalNumber (r .answer) ≡ refusal (readGrounds self reg)) ⌝ }
     {
         let mut next = self;
         let mut value = next.temporary;
@@ -161,7 +162,7 @@ impl Controller {
 
     // The four DREQ pins take these levels.
     pub fn pins(self, levels: u32) -> Outcome
-        ensures { λ r. ⌜ r ≡ pinsOf self levels ⌝ }
+        ensures { λ r. ⌜ (r ≡ pinsOf self levels) × (refusalNumber (r .answer) ≡ refusal (pinsGrounds self levels)) ⌝ }
     {
         let no = self.pins_refusal(levels);
         if no != 0 {
@@ -176,7 +177,7 @@ impl Controller {
     }
 
     pub fn reset(self) -> Outcome
-        ensures { λ r. ⌜ r ≡ resetOf self ⌝ }
+        ensures { λ r. ⌜ (r ≡ resetOf self) × (refusalNumber (r .answer) ≡ refusal (resetGrounds self)) ⌝ }
     {
         let no = self.reset_refusal();
         if no != 0 {
@@ -191,7 +192,7 @@ impl Controller {
 
     // The first entitled channel's service begins.
     pub fn grant(self) -> Outcome
-        ensures { λ r. ⌜ r ≡ grantOf self ⌝ }
+        ensures { λ r. ⌜ (r ≡ grantOf self) × (refusalNumber (r .answer) ≡ refusal (grantGrounds self)) ⌝ }
     {
         let n = self.picked();
         let no = self.grant_refusal(n);

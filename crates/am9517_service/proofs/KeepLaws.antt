@@ -42,7 +42,7 @@ cascade-not e = let z : _≡_ {A = ℕ} 0 1 = cc in omega arith
 short-not : Short ≡ Ended → ⊥
 short-not e = let z : _≡_ {A = ℕ} 0 1 = cc in omega arith
 
--- Whatever holds of worlds addressAfter a run and comes through each way to stop holds where it stops.
+-- Whatever holds of worlds along a run and comes through each way to stop holds where it stops.
 module _ (P : ℕ → World → Type 0) (Q : Stop → Type 0) (eop : ℕ) (d : List ℕ)
     (step : (left : ℕ) (w : World) → P (suc left) w → Supplied w d → P left (transferred w d))
     (halts : (left : ℕ) (w : World) (e : Reason) → (e ≡ Ended → ⊥) → P left w → Q (stop w e))

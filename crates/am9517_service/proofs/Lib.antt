@@ -2,6 +2,7 @@
 pub mod StatesLaws
 pub mod SpanLaws
 pub mod AnswerLaws
+pub mod StatedLaws
 pub mod RunLaws
 pub mod TransferLaws
 pub mod RunWayLaws

@@ -287,7 +287,7 @@ copies-0 s i j f e h is = go (memoryToMemoryBit (s .command)) refl
     go true h' = let z : j ≡ 0 = is ∙ ap (λ (x : Facts). x .copier) e ∙ when-hit _ _ _ h' in (eq-eqb _ _ z, z)
     go false h' = let z : j ≡ 4 = is ∙ ap (λ (x : Facts). x .copier) e ∙ when-miss _ _ _ h' in absurd (omega arith)
 
--- a byte or a place that a alone transfer found
+-- a byte or a place that a lone transfer found
 found-by : (w r : Bool) (bytes space : ℕ) → when w (not (eqb bytes 0)) (when r (not (eqb space 0)) true) ≡ true → 0 < when w bytes (when r space 65536)
 unfolding when
 found-by true r bytes space h = some-left bytes h
@@ -347,7 +347,7 @@ module _ (k : ℕ) (d : List ℕ) (size : ℕ) (o : Close) (f : Facts) (s : Cont
   abbrev resting-now : AtRest s
   resting-now = rest k d size o f s services n nexts longs i left m r g
 
-  -- a alone transfer
+  -- a lone transfer
   module _ (count address : ℕ) (ec : count ≡ ch .count) (hc : count < 65536) (ea : address ≡ ch .address) (ha : address < 65536) (single : Bool) (es : single ≡ isSingle (ch .mode)) (l : Alone) (m' r' : List ℕ)
       (el : l .made ≡ madeAlone ((single && not (eqb count 0)) && not (eqb q (f .copier))) (ch .mode) (length d - n .used) (length r - n .written))
       (eu : l .used ≡ n .used + when (l .made && isWrite (ch .mode)) 1 0) (ew : l .written ≡ n .written + when (l .made && isRead (ch .mode)) 1 0)

@@ -169,7 +169,7 @@ spans-stay ch act bytes space =
     (when-both P (leb (untilEnd (isSingle (ch .mode)) (ch .count) 0) (least 65536 (stockOf ch bytes space))) (λ z h. never h)
     (λ z h. when-both (λ (e : Reason). staysOpen e ≡ true) (leb 65536 (stockOf ch bytes space)) refl refl)))
 
--- Counts with alone services among them.
+-- Counts with lone services among them.
 pub counts-same : (a b c d a' b' c' d' : ℕ) → a ≡ a' → b ≡ b' → c ≡ c' → d ≡ d' → counts a b c d ≡ counts a' b' c' d'
 counts-same a b c d a' b' c' d' ea eb ec ed = rw (ea, eb, ec, ed)
 

@@ -1,4 +1,4 @@
--- A run addressAfter worlds that are known in closed form, of either sort of service: it goes on, and it ends.
+-- A run along worlds that are known in closed form, of either sort of service: it goes on, and it ends.
 use Prim.Native.Nat.{ℕ, zero, suc, _+_, _-_, _≤_, _<_}
 use mathlib.Core.Path.{_≡_, refl, ap, _∙_}
 use mathlib.Core.Bool.{Bool, true, false, _||_}

@@ -1,5 +1,6 @@
 -- What a call of run gives, for all inputs: its answer, and the memory and the room as it leaves them.
 use Prim.Native.Nat.{ℕ}
+use Prim.Native.String.{String}
 use mathlib.Core.Bool.{Bool, not}
 use mathlib.Core.List.{List, [], _∷_}
 use lib.Dec.{eqb}
@@ -9,6 +10,8 @@ use Rattle.words.specs.Grounds.{Ground, _if_}
 use Rattle.am9517.specs.Ranges.{valid}
 use Rattle.am9517.specs.Refusals.{refusal, idle}
 use Rattle.am9517.specs.declared.Controller.{Controller}
+use Rattle.am9517_service.specs.declared.Reason.{Reason}
+use Rattle.am9517_service.specs.declared.Reason.the-variants.{Ended, Dropped, Cascade, Limit, Short}
 use Rattle.am9517_service.specs.declared.RunAnswer.{RunAnswer}
 use Rattle.am9517_service.specs.declared.RunAnswer.the-variants.{Stopped, Refused}
 use Rattle.am9517_service.specs.declared.Ran.{Ran}
@@ -16,7 +19,15 @@ use Rattle.am9517_service.specs.Counts.{none}
 use Rattle.am9517_service.specs.World.{startOf, Stop}
 use Rattle.am9517_service.specs.Run.{runOf}
 
--- the refusal number of each answer, 0 for none
+-- "If an answer is an enum, the promises use a definition that states this paper's number and values for each of its cases": the
+-- refusal number of each answer, 0 for none, stands in the promise; the word of each reason in the console's, which say it
+abbrev pub wordOf : Reason → String
+wordOf Ended = "ended"
+wordOf Dropped = "dropped"
+wordOf Cascade = "cascade"
+wordOf Limit = "limit"
+wordOf Short = "short"
+
 abbrev pub runRefusalNumber : RunAnswer → ℕ
 runRefusalNumber (Stopped e) = 0
 runRefusalNumber (Refused n) = n

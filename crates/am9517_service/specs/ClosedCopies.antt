@@ -26,11 +26,11 @@ use Rattle.am9517_service.specs.ClosedLegs.{addressAfter, currentAfter, 
 abbrev pub sourceAfter : Bool → Channel → ℕ → Channel
 sourceAfter hold ch n = withCurrent ch (when hold (ch .address) (addressAfter ch n)) (ch .count)
 
--- the bytes of n transfers addressAfter a route
+-- the bytes of n transfers along a route
 unfoldable pub carriedBy : Route → List ℕ → ℕ → List ℕ
 carriedBy ρ m n = carried (steps 16 (ρ .«to_down») (ρ .to)) (λ (j : ℕ). sourceAfter (ρ .hold) (ρ .source) j .address) m n
 
--- of n bytes addressAfter a route, how many are moved before an address turns over: the target's, and the source's unless it is held
+-- of n bytes along a route, how many are moved before an address turns over: the target's, and the source's unless it is held
 unfoldable pub straightOf : Route → ℕ → ℕ
 straightOf ρ n =
     let target = least n (reachOf 65536 (ρ .«to_down») (ρ .to)) in

@@ -42,6 +42,6 @@ staysOpen Cascade = true
 staysOpen Limit = true
 staysOpen Short = true
 
--- how far a leg goes
+-- how far a leg of memory-to-memory goes
 unfoldable pub copySpan : ℕ → ℕ → ℕ → Span
 copySpan count limit eop = let most = untilEnd false count eop in when (leb most limit) (span most Ended) (span limit Limit)

@@ -1,4 +1,4 @@
--- "Memory-to-memory": one transfer of it. When a service is one, World `memoryToMemory` says; what stops it, Stops; its end, Ends `afterTcOrEop`.
+-- "Memory-to-memory." One transfer of it. When a service is one, World `memoryToMemory` says; what stops it, Stops; its end, Ends `afterTcOrEop`.
 use mathlib.Core.Bool.{Bool}
 use lib.ListN.{getD, set}
 use Rattle.words.specs.Choice.{when}
@@ -11,11 +11,11 @@ use Rattle.am9517_service.specs.World.{World, world}
 use Rattle.am9517_service.specs.Transfer.{withCurrent, stepped}
 use Rattle.am9517_service.specs.States.{copyPace}
 
--- channel 0 after a transfer: its address "stays under command bit 1"; its count isn't touched
+-- channel 0 after a transfer: its address "stays under command bit 1"; "Channel 0's count .. aren't touched"
 abbrev pub sourceNext : Bool → Channel → Channel
 sourceNext hold ch = withCurrent ch (when hold (ch .address) (step 16 (decrement (ch .mode)) (ch .address))) (ch .count)
 
--- "byte at channel 0's address to the temporary byte, then to channel 1's address; both step as their mode bit 5 says, but channel 0
+-- "One transfer: byte at channel 0's address to the temporary byte, then to channel 1's address; both step as their mode bit 5 says, but channel 0
 -- stays under command bit 1. Channel 1's count steps .."
 unfoldable pub copied : World → World
 copied w =

@@ -16,11 +16,11 @@ use Rattle.am9517_service.specs.declared.legs.Bits.{Bits}
 use Rattle.am9517_service.specs.World.{World, withController, memoryToMemory, servingChannel, Stop, stop}
 use Rattle.am9517_service.specs.Transfer.{withCurrent}
 
--- the channel whose count is run: in memory-to-memory channel 1, else the serving one
+-- the channel whose count is run: in memory-to-memory channel 1 ("Channel 1's count steps; its TC sets TC bit 1"), else the serving one
 unfoldable pub counting : Controller → ℕ
 counting c = when (memoryToMemory c) 1 (c .serving)
 
--- "from 0 it becomes FFFFh, which is TC. So count N gives N+1 transfers": TC is met by the transfer before which the count is 0
+-- "from 0 it becomes FFFFh, which is TC. So count N gives N+1 transfers (001)": TC is met by the transfer before which the count is 0
 abbrev pub reachesTc : Controller → Bool
 reachesTc c = eqb (channel c (counting c) .count) 0
 
@@ -57,7 +57,8 @@ finished c n tc eop =
     let ch = channel c n in
     ended (withBits (withChannel c n (channelAfter ch)) (bitsAfter n (ch .mode) (bitsOf c) tc eop))
 
--- in memory-to-memory "request bits 0 and 1 are cleared, and channel 1 restores or is masked by its own mode bit 4"
+-- in memory-to-memory "At TC or EOP the service ends, request bits 0 and 1 are cleared, and channel 1 restores or is masked by its
+-- own mode bit 4. Channel 0's count and mask bit aren't touched": it is channel 1 that finishes, and only its mask bit is set
 unfoldable pub afterTcOrEop : Controller → Bool → Bool → Controller
 afterTcOrEop c tc eop =
     when (memoryToMemory c) (finished (put c Request (withBit (c .request) 0 false)) 1 tc eop) (finished c (c .serving) tc eop)
@@ -66,7 +67,8 @@ afterTcOrEop c tc eop =
 unfoldable pub single : Controller → Bool
 single c = not (memoryToMemory c) && isSingle (servingChannel c .mode)
 
--- the ends that a transfer may meet: from the controller c before it to the world w behind it
+-- the ends that a transfer may meet: from the controller c before it to the world w behind it. "These ends are "ended"."
+-- In memory-to-memory "only TC or EOP ends it": `single` never holds there.
 abbrev pub ends : Controller → World → ℕ → List (Ground Stop)
 ends c w eop =
     let tc = reachesTc c in

@@ -17,7 +17,7 @@ pub record Stocked (ch : Channel) (m d r : List ℕ) (n : ℕ) : Type 0 where
   pub bytes : writes ch ≡ true → n ≤ length d
   pub space : reads ch ≡ true → n ≤ length r
 
--- no address of n bytes addressAfter a route turns over
+-- no address of n bytes along a route turns over
 pub record Straight (ρ : Route) (n : ℕ) : Type 0 where
   pub target : Within (ρ .«to_down») (ρ .to) n 65536
   pub source : ρ .hold ≡ false → Within (decrement (ρ .source .mode)) (ρ .source .address) n 65536

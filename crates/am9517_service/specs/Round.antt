@@ -66,7 +66,7 @@ pub record Close : Type 0 where
 abbrev pub close : Course → RoundAnswer → Close
 close w a = record { course = w; answer = a }
 
--- with remaining more services to begin: "It stops, in this order after each run: not "ended" (its reason); k begun ("done");
+-- with `remaining` more services to begin: "It stops, in this order after each run: not "ended" (its reason); k begun ("done");
 -- nobody entitled ("quiet"). Before the first, k = 0 is "done" and comes before quiet."
 unfoldable pub roundOf : ℕ → List ℕ → Course → Close
 roundOf zero d w = close w Done

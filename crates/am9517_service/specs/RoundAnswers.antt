@@ -1,5 +1,6 @@
 -- What a call of round gives, for all inputs.
 use Prim.Native.Nat.{ℕ}
+use Prim.Native.String.{String}
 use mathlib.Core.Bool.{not}
 use mathlib.Core.List.{List, [], _∷_}
 use lib.Dec.{eqb, ltb}
@@ -8,13 +9,19 @@ use Rattle.words.specs.Grounds.{Ground, _if_}
 use Rattle.am9517.specs.Ranges.{valid}
 use Rattle.am9517.specs.Refusals.{refusal, busy}
 use Rattle.am9517.specs.declared.Controller.{Controller}
-use Rattle.am9517_service.specs.Answers.{wrongSize}
+use Rattle.am9517_service.specs.Answers.{wordOf, wrongSize}
 use Rattle.am9517_service.specs.declared.RoundAnswer.{RoundAnswer}
 use Rattle.am9517_service.specs.declared.RoundAnswer.the-variants.{Done, Quiet, Stopped, Refused}
 use Rattle.am9517_service.specs.declared.Rounded.{Rounded}
 use Rattle.am9517_service.specs.Round.{beginning, Close, close, roundOf}
 
--- the refusal number of each answer, 0 for none
+-- this paper's word of each answer, and its refusal number, 0 for none
+abbrev pub roundWordOf : RoundAnswer → String
+roundWordOf Done = "done"
+roundWordOf Quiet = "quiet"
+roundWordOf (Stopped e) = wordOf e
+roundWordOf (Refused n) = ""
+
 abbrev pub roundRefusalNumber : RoundAnswer → ℕ
 roundRefusalNumber Done = 0
 roundRefusalNumber Quiet = 0

@@ -14,7 +14,7 @@ use Rattle.am9517_service.specs.Ends.{ends}
 unfoldable pub transferred : World → List ℕ → World
 transferred w d = when (memoryToMemory (w .controller)) (copied w) (moved w d)
 
--- with remaining more transfers allowed; the transfer of this call whose number is eop meets external EOP
+-- with `remaining` more transfers allowed; the transfer of this call whose number is eop meets external EOP
 unfoldable pub runOf : ℕ → ℕ → List ℕ → World → Stop
 runOf zero eop d w = first (stops w d 0) (stop w Limit)
 runOf (suc remaining) eop d w =

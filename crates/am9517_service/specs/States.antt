@@ -1,5 +1,6 @@
 -- "Working states. Normal transfer 3, compressed 2, plus 1 (state S1) when the latch is empty or differs from the upper address byte,
--- which is then latched. Memory-to-memory 8 always, latch unused. Idle and S0 states aren't counted."
+-- which is then latched. Memory-to-memory 8 always, latch unused. Idle and S0 states aren't counted":
+-- a transfer adds its states, and nothing else adds any.
 use Prim.Native.Nat.{ℕ, _+_}
 use mathlib.Core.Bool.{Bool, not, _||_}
 use lib.Dec.{eqb}

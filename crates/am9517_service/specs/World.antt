@@ -28,7 +28,7 @@ startOf c m r = world c m r none
 abbrev pub withController : World → Controller → World
 withController w c = world c (w .memory) (w .room) (w .counts)
 
--- "With command bit 0 set, a service of channel 0 is" memory-to-memory.
+-- "With command bit 0 set, a service of channel 0 is this, whatever its mode, single and cascade too": memory-to-memory; no mode is asked
 unfoldable pub memoryToMemory : Controller → Bool
 memoryToMemory c = memoryToMemoryBit (c .command) && eqb (c .serving) 0
 

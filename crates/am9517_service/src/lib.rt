@@ -1,12 +1,12 @@
 // Services over lent memory, device bytes and device room: a run of one, and a round of up to k.
 use am9517::Controller;
 
-mod spans;
 mod bytes;
 mod copies;
 mod legs;
 mod rounds;
 mod runs;
+mod spans;
 mod transfers;
 
 pub use rounds::round;

@@ -3,7 +3,6 @@ use crate::Counts;
 use crate::Reason;
 use crate::RoundAnswer;
 use crate::Rounded;
-use crate::spans::span_of;
 use crate::bytes::bring;
 use crate::bytes::fetch;
 use crate::bytes::move_on;
@@ -13,10 +12,10 @@ use crate::legs::Bits;
 use crate::legs::leg_of;
 use crate::runs::bits_of;
 use crate::runs::copied_counts;
-use crate::runs::counted;
 use crate::runs::no_counts;
 use crate::runs::pace_of;
 use crate::runs::stays_open;
+use crate::spans::span_of;
 use am9517::Channel;
 use am9517::Controller;
 use am9517::entitled_of;
@@ -34,7 +33,7 @@ use words::choice::when_size;
 use words::steps::step;
 ghost use mathlib.Core.Path.{_≡_};
 ghost use mathlib.Core.Bool.{_&&_};
-ghost use mathlib.Core.List.{List, _++_};
+ghost use mathlib.Core.List.{_++_};
 ghost use Prim.Native.Nat.{ℕ, _+_, _-_, _*_, _^_, _≤_, _<_};
 ghost use lib.ListN.{length, take, drop};
 ghost use Rattle.words.specs.Choice.{when};
@@ -42,9 +41,8 @@ ghost use Rattle.words.specs.Steps.{steps};
 ghost use Rattle.words.specs.Spans.{spread};
 ghost use Rattle.am9517.specs.Modes.{decrement, isWrite, isRead};
 ghost use Rattle.am9517.specs.Refusals.{refusal};
-ghost use Rattle.am9517_service.specs.Counts.{plus};
 ghost use Rattle.am9517_service.specs.Round.{isEnded};
-ghost use Rattle.am9517_service.specs.RoundAnswers.{roundGiven, roundGrounds, roundedOf};
+ghost use Rattle.am9517_service.specs.RoundAnswers.{roundGiven, roundRefusalNumber, roundGrounds, roundedOf};
 ghost use Rattle.am9517_service.specs.Transfer.{stepped};
 ghost use Rattle.am9517_service.specs.ClosedLegs.{stored, loaded};
 ghost use Rattle.am9517_service.specs.ClosedSpans.{staysOpen};
@@ -340,7 +338,7 @@ fn closing(
 
 // A round of up to k services.
 pub fn round(c: Controller, memory: &mut [u8], device: &[u8], room: &mut [u8], k: u32) -> Rounded
-    ensures { λ r. ⌜ roundGiven r (now (memory .exit)) (now (room .exit)) ≡ roundedOf c (now (memory .entry)) (now (device .entry)) (now (room .entry)) k ⌝ }
+    ensures { λ r. ⌜ (roundGiven r (now (memory .exit)) (now (room .exit)) ≡ roundedOf c (now (memory .entry)) (now (device .entry)) (now (room .entry)) k) × (roundRefusalNumber (r .answer) ≡ refusal (roundGrounds c (now (memory .entry)) k)) ⌝ }
 {
     let mut s = c;
     let no = round_refusal(s, memory, k);

@@ -3,9 +3,6 @@ use crate::Counts;
 use crate::Ran;
 use crate::Reason;
 use crate::RunAnswer;
-use crate::spans::Span;
-use crate::spans::copy_span;
-use crate::spans::span_of;
 use crate::bytes::move_bytes;
 use crate::copies::Copied;
 use crate::copies::copy_bytes;
@@ -13,6 +10,8 @@ use crate::copies::copy_leg;
 use crate::legs::Bits;
 use crate::legs::Leg;
 use crate::legs::leg_of;
+use crate::spans::copy_span;
+use crate::spans::span_of;
 use crate::transfers::needs_s1;
 use crate::transfers::sixteen_bits;
 use am9517::Channel;
@@ -29,7 +28,6 @@ ghost use mathlib.Core.Path.{_≡_};
 ghost use mathlib.Core.Bool.{true};
 ghost use mathlib.Core.List.{List};
 ghost use Prim.Native.Nat.{ℕ, _+_, _*_, _^_, _≤_, _<_};
-ghost use lib.Dec.{eqb};
 ghost use lib.ListN.{length};
 ghost use Rattle.words.specs.Choice.{when};
 ghost use Rattle.am9517.specs.State.{ended};
@@ -37,12 +35,12 @@ ghost use Rattle.am9517.specs.Fields.{channel};
 ghost use Rattle.am9517.specs.Refusals.{refusal};
 ghost use Rattle.am9517_service.specs.declared.RunAnswer.the-variants.{Stopped};
 ghost use Rattle.am9517_service.specs.Counts.{counts, none, plus};
-ghost use Rattle.am9517_service.specs.World.{memoryToMemory, servingChannel, startOf, stop};
+ghost use Rattle.am9517_service.specs.World.{memoryToMemory, startOf, stop};
 ghost use Rattle.am9517_service.specs.States.{pace, copyPace, needsS1};
 ghost use Rattle.am9517_service.specs.Transfer.{writes, reads};
 ghost use Rattle.am9517_service.specs.Ends.{bitsOf};
 ghost use Rattle.am9517_service.specs.Run.{runOf};
-ghost use Rattle.am9517_service.specs.Answers.{given, stopped, refusedOf, runGrounds, ranOf};
+ghost use Rattle.am9517_service.specs.Answers.{given, runRefusalNumber, stopped, refusedOf, runGrounds, ranOf};
 ghost use Rattle.am9517_service.specs.ClosedLegs.{countsOf, legOf, afterLeg};
 ghost use Rattle.am9517_service.specs.ClosedSpans.{staysOpen};
 ghost use Rattle.am9517_service.specs.ClosedCopies.{afterCopy};
@@ -249,7 +247,7 @@ pub fn run(
     limit: u64,
     eop_at: u64,
 ) -> Ran
-    ensures { λ r. ⌜ given r (now (memory .exit)) (now (room .exit)) ≡ ranOf c (now (memory .entry)) (now (device .entry)) (now (room .entry)) limit «eop_at» ⌝ }
+    ensures { λ r. ⌜ (given r (now (memory .exit)) (now (room .exit)) ≡ ranOf c (now (memory .entry)) (now (device .entry)) (now (room .entry)) limit «eop_at») × (runRefusalNumber (r .answer) ≡ refusal (runGrounds c (now (memory .entry)))) ⌝ }
 {
     // Taken out before the ranges are asked: a serving channel over 3 is refused below.
     let i = (c.serving % 4) as usize;

@@ -42,7 +42,7 @@ pub record Stored : Type 0 where
 abbrev pub stored : SheetAnswer → List ℕ → Stored
 stored a bs = record { answer = a; bytes = bs }
 
--- "sheet writing 1, 9", into a slice of n bytes
+-- "sheet writing 1, 9", into a slice of n bytes: 9 "slice under 56 bytes for a sheet"
 abbrev pub sheetWriteGrounds : Form → Controller → ℕ → List (Ground ℕ)
 sheetWriteGrounds form s n = 1 if not (valid s) ∷ 9 if ltb n (sheetSize form) ∷ []
 
@@ -52,7 +52,7 @@ sheetWriteOf form s out =
     let no = refusal (sheetWriteGrounds form s (length out)) in
     stored (answerOf no) (when (eqb no 0) (placed out (length out - sheetSize form) (sheetOf form s)) out)
 
--- "sheet reading 9 to 14 in order": those of its bytes, and 14, a state out of its ranges
+-- "sheet reading 9 to 14 in order", of which 10 to 14 are the "sheet faults, below": those of its bytes, and "14 range", a state out of its ranges
 abbrev pub sealGrounds : Form → List ℕ → List (Ground ℕ)
 sealGrounds form bytes = 9 if ltb (length bytes) (sheetSize form) ∷ trailerGrounds form (sheetIn form bytes)
 

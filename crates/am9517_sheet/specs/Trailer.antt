@@ -14,7 +14,7 @@ use Rattle.am9517_sheet.specs.Form.{number, bodySize}
 abbrev pub endMark : ℕ
 endMark = wordOf 0x44 0x4D
 
--- "01, 00, distance back from trailer to body, sum of the body bytes (2 bytes), 44h, 4Dh"
+-- "Trailer, 8 bytes: 01, 00, distance back from trailer to body (30h, 00), sum of the body bytes (2 bytes), 44h, 4Dh"
 abbrev pub trailerOf : Form → List ℕ → List ℕ
 trailerOf form body = wordBytes (number form) ++ wordBytes (length body) ++ wordBytes (total body) ++ wordBytes endMark
 
@@ -22,7 +22,7 @@ trailerOf form body = wordBytes (number form) ++ wordBytes (length body) ++ word
 abbrev pub withTrailer : Form → List ℕ → List ℕ
 withTrailer form body = body ++ trailerOf form body
 
--- of a sheet: "10 end mark; 11 first two trailer bytes; 12 distance; 13 sum"
+-- of a sheet: "Reading faults: 10 end mark; 11 first two trailer bytes; 12 distance; 13 sum"
 abbrev pub trailerGrounds : Form → List ℕ → List (Ground ℕ)
 trailerGrounds form sheet =
     let size = bodySize form in

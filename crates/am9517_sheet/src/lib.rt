@@ -9,9 +9,10 @@ use crate::trailer::trailer_refusal;
 use am9517::Controller;
 use words::choice::when;
 ghost use mathlib.Core.Path.{_≡_};
+ghost use lib.ListN.{length};
 ghost use Rattle.am9517_sheet.specs.declared.forms.Form.the-variants.{One};
 ghost use Rattle.am9517.specs.Refusals.{refusal};
-ghost use Rattle.am9517_sheet.specs.Sheet.{stored, sheetWriteOf, sealGrounds, sheetReadOf, toldIn, sealedIn};
+ghost use Rattle.am9517_sheet.specs.Sheet.{sheetRefusalNumber, stored, sheetWriteGrounds, sheetWriteOf, sealGrounds, sheetReadGrounds, sheetReadOf, toldIn, sealedIn};
 
 mod body;
 mod bytes;
@@ -54,7 +55,7 @@ fn write_in(form: Form, c: Controller, out: &mut [u8]) -> SheetAnswer
 
 // The controller's sheet of form 1 is written at the end of the slice.
 pub fn write(c: Controller, out: &mut [u8]) -> SheetAnswer
-    ensures { λ r. ⌜ stored r (now (out .exit)) ≡ sheetWriteOf One c (now (out .entry)) ⌝ }
+    ensures { λ r. ⌜ (stored r (now (out .exit)) ≡ sheetWriteOf One c (now (out .entry))) × (sheetRefusalNumber r ≡ refusal (sheetWriteGrounds One c (length (now (out .entry))))) ⌝ }
 {
     write_in(Form::One, c, out)
 }
@@ -88,7 +89,7 @@ fn read_in(form: Form, c: Controller, bytes: &[u8]) -> SheetRead
 
 // The sheet of form 1 at the end of the slice is read; a refused one leaves the state.
 pub fn read(c: Controller, bytes: &[u8]) -> SheetRead
-    ensures { λ r. ⌜ r ≡ sheetReadOf One c (now (bytes .entry)) ⌝ }
+    ensures { λ r. ⌜ (r ≡ sheetReadOf One c (now (bytes .entry))) × (sheetRefusalNumber (r .answer) ≡ refusal (sheetReadGrounds One (now (bytes .entry)))) ⌝ }
 {
     read_in(Form::One, c, bytes)
 }

@@ -11,7 +11,6 @@ use am9517_service::RunAnswer;
 use am9517_sheet::SheetAnswer;
 ghost use mathlib.Core.Path.{_≡_};
 ghost use Prim.Native.Nat.{_≤_};
-ghost use Rattle.am9517.specs.Answers.{refusalNumber};
 ghost use Rattle.am9517_service.specs.Answers.{runRefusalNumber};
 ghost use Rattle.am9517_service.specs.RoundAnswers.{roundRefusalNumber};
 ghost use Rattle.am9517_sheet.specs.Sheet.{sheetRefusalNumber};

@@ -3,14 +3,13 @@ use Prim.Native.Nat.{ℕ}
 use mathlib.Core.List.{List, _++_}
 use lib.ListN.{getD}
 use Rattle.am9517.specs.declared.Controller.{Controller}
-use Rattle.am9517_service.specs.Answers.{Given, ranOf}
+use Rattle.am9517_service.specs.Answers.{wordOf, Given, ranOf}
 use Rattle.am9517_service.specs.declared.Counts.{Counts}
 use Rattle.am9517_service.specs.declared.Reason.{Reason}
-use Rattle.am9517_service.specs.declared.Reason.the-variants.{Ended, Dropped, Cascade, Limit, Short}
 use Rattle.am9517_service.specs.declared.RunAnswer.{RunAnswer}
 use Rattle.am9517_service.specs.declared.RunAnswer.the-variants.{Stopped as RunStopped, Refused as RunRefused}
 use Rattle.am9517_service.specs.declared.Ran.{Ran}
-use Rattle.am9517_service.specs.RoundAnswers.{RoundGiven, roundedOf}
+use Rattle.am9517_service.specs.RoundAnswers.{roundWordOf, RoundGiven, roundedOf}
 use Rattle.am9517_service.specs.declared.RoundAnswer.{RoundAnswer}
 use Rattle.am9517_service.specs.declared.RoundAnswer.the-variants.{Done, Quiet, Stopped, Refused}
 use Rattle.am9517_service.specs.declared.Rounded.{Rounded}
@@ -19,12 +18,9 @@ use Rattle.console_text.specs.Numbers.{numberOf, decimalText}
 use Rattle.console_chip.specs.Answers.{errorText, refusedText, numbered, wordMost}
 use Rattle.console_arrays.specs.declared.runs.Served.{Served}
 
+-- document 01's words
 unfoldable pub reasonText : Reason → List ℕ
-reasonText Ended = codes "ended"
-reasonText Dropped = codes "dropped"
-reasonText Cascade = codes "cascade"
-reasonText Limit = codes "limit"
-reasonText Short = codes "short"
+reasonText why = codes (wordOf why)
 
 -- " transfers=T used=U written=W states=S"
 unfoldable pub countsText : Counts → List ℕ
@@ -43,8 +39,8 @@ runText (RunStopped why) counts = reasonText why ++ counts
 runText (RunRefused n) counts = refusedText n
 
 unfoldable pub roundText : RoundAnswer → List ℕ → List ℕ
-roundText Done counts = codes "done" ++ counts
-roundText Quiet counts = codes "quiet" ++ counts
+roundText Done counts = codes (roundWordOf Done) ++ counts
+roundText Quiet counts = codes (roundWordOf Quiet) ++ counts
 roundText (Stopped why) counts = reasonText why ++ counts
 roundText (Refused n) counts = refusedText n
 

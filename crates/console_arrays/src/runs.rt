@@ -1,13 +1,13 @@
 // The commands run and round.
 use am9517::Controller;
-use console_chip::answers::error;
-use console_chip::answers::refused;
 use am9517_service::Counts;
 use am9517_service::Ran;
 use am9517_service::Reason;
 use am9517_service::RoundAnswer;
 use am9517_service::Rounded;
 use am9517_service::RunAnswer;
+use console_chip::answers::error;
+use console_chip::answers::refused;
 use console_text::numbers::Number;
 use console_text::numbers::number_of;
 use console_text::page::decimal;

@@ -1,5 +1,4 @@
 // The commands on the controller.
-use am9517::Controller;
 use crate::answers::Spoken;
 use crate::answers::agree;
 use crate::answers::bytes_said;
@@ -7,6 +6,7 @@ use crate::answers::fault;
 use crate::answers::ok;
 use crate::answers::refused;
 use crate::answers::tell;
+use am9517::Controller;
 use am9517_sheet::BODY;
 use am9517_sheet::SheetAnswer;
 use am9517_sheet::body_of;

@@ -6,8 +6,6 @@ use console_commands::execute;
 use console_text::line::end_of;
 use console_text::line::said;
 use console_text::page::byte;
-ghost use mathlib.Core.Path.{_≡_};
-ghost use Prim.Native.Nat.{_+_, _≤_};
 ghost use lib.ListN.{length};
 
 // The longest line that is read; the line's array has two places more, for a carriage return and for one too many.

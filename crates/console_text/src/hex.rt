@@ -3,7 +3,7 @@ use crate::numbers::all_digits;
 use crate::numbers::digit_of;
 use crate::page::byte;
 ghost use mathlib.Core.Path.{_≡_};
-ghost use Prim.Native.Nat.{_+_, _*_, _≤_};
+ghost use Prim.Native.Nat.{_+_, _*_};
 ghost use Rattle.console_text.specs.Text.{page, put};
 ghost use Rattle.console_text.specs.Hex.{nibble, isBytes, bytesIn};
 

@@ -34,7 +34,7 @@ use Rattle.c_am9517.specs.declared.Told.{Told}
 use Rattle.c_am9517.specs.Numbers.{valueOf, told}
 use Rattle.c_am9517.specs.Host.{sheetRefusal, openedOf, keptOf, Left, refusedOf, doneOf, callOf, storedOf, RunLeft, runRefused, runLeft, runDoneOf, RoundLeft, roundRefused, roundLeft, roundDoneOf}
 use Rattle.demands.specs.Lists.{All, none, also}
-use Rattle.demands.specs.Operations.{Op, Write, Read, Pins, Reset, Grant, Run, Round, next, afterAll}
+use Rattle.demands.specs.Operations.{Op, Write, Read, Pins, Reset, Grant, Run, Round, SheetWriting, SheetReading, next, afterAll, said}
 use Rattle.demands.specs.Rounds.{callsFrom}
 use Rattle.demands.specs.Calls.{Call, CFresh, CCheck, CReset, CGrant, CEntitled, CStatus, CCopy, CWrite, CRead, CPins, CRun, CRound, Lent, lent, Spoken, leftBy, looked, ranBy, roundBy, does, stateIn, callGrounds, CallRefuses, Demand1OfCalls, SheetsStayGood}
 use Rattle.words.proofs.ChoiceLaws.{when-both, when-each, when-miss}
@@ -44,9 +44,10 @@ use Rattle.am9517_service.proofs.KeepLaws.{run-ind}
 use Rattle.am9517_sheet.proofs.SheetLaws.{number-said, write-done, write-free}
 use Rattle.am9517_sheet.proofs.TripLaws.{written-read}
 use Rattle.c_am9517.proofs.RefusalLaws.{good-room}
-use Rattle.demands.proofs.Refusals.{refusal-exactly, Zeros, ran-told, round-told, round-refused}
+use Rattle.demands.proofs.Refusals.{refusal-exactly, Zeros, round-refused}
+use Rattle.am9517_service.proofs.StatedLaws.{ran-told, round-told}
 use Rattle.demands.proofs.Rounds.{round-is-calls}
-use Rattle.demands.proofs.Ranges.{kept, read, fresh-valid}
+use Rattle.demands.proofs.Ranges.{kept, read, fresh-valid, not-by-1}
 
 -- a function of the one chosen is the one chosen of its values
 when-map : {A B : Type 0} (f : A → B) (t : Bool) (a b : A) → f (when t a b) ≡ when t (f a) (f b)
@@ -365,6 +366,83 @@ module _ (b : List ℕ) (good : sheetRefusal b ≡ 0) where
       opened-small (λ (l : RoundLeft). l .said .refusal) _ (λ s. roundDoneOf b (roundedOf s m d r k))
       (subst (λ (n : ℕ). n ≤ 8) (sym (round-told (stateIn b) m d r k)) (refusal-small (roundGrounds (stateIn b) m k) (also (small 1 (omega arith)) (also (small 2 (omega arith)) (also (small 7 (omega arith)) (also (small 3 (omega arith)) none))))))
 
+-- the sheet is refused, or what goes on from its state
+opened-each : {A : Type 0} (P : A → Type 0) (b : List ℕ) (refused : ℕ → A) (go : Controller → A)
+    → (¬ (sheetRefusal b ≡ 0) → P (refused (sheetRefusal b))) → (sheetRefusal b ≡ 0 → P (go (stateIn b))) → P (openedOf b refused go)
+unfolding openedOf
+opened-each P b refused go h g = when-each P (eqb (sheetRefusal b) 0) (λ e. g (eqb-true _ _ e)) (λ e. h (eqb-false _ _ e))
+
+-- an accepted call found a good sheet
+good-before : {A : Type 0} (f : A → ℕ) (b : List ℕ) (refused : ℕ → A) (go : Controller → A) → f (refused (sheetRefusal b)) ≡ sheetRefusal b
+    → f (openedOf b refused go) ≡ 0 → sheetRefusal b ≡ 0
+good-before f b refused go e = opened-each (λ x. f x ≡ 0 → sheetRefusal b ≡ 0) b refused go (λ n z. sym e ∙ z) (λ g z. g)
+
+-- an accepted sheet writing leaves a good one
+stored-accepted : (t : Controller) (b : List ℕ) → refusal (sheetWriteGrounds One t (length b)) ≡ 0 → length (t .channels) ≡ 4 → sheetRefusal (sheetWriteOf One t b .bytes) ≡ 0
+stored-accepted t b z four =
+    ap (λ (x : SheetRead). sheetRefusalNumber (x .answer)) (written-read One t fresh b four (ap (λ (w : Stored). w .answer) (write-done One t b z)))
+
+module _ (b : List ℕ) where
+  done-before : (operation : Controller → Outcome) → callOf operation b .said .refusal ≡ 0 → sheetRefusal b ≡ 0
+  done-before operation = good-before (λ (l : Left). l .said .refusal) b (refusedOf b) (λ s. doneOf b (operation s)) refl
+
+  look-before : (shown : Controller → Told) → openedOf b (λ n. told n 0) shown .refusal ≡ 0 → sheetRefusal b ≡ 0
+  look-before shown = good-before (λ (t : Told). t .refusal) b (λ n. told n 0) shown refl
+
+  accepted-good : (c : Call) → does b c .refusal ≡ 0 → sheetRefusal (does b c .leaves .state) ≡ 0
+  accepted-good CFresh h = stored-accepted fresh b (sym (stored-said fresh b) ∙ h) refl
+  accepted-good CCheck h = h
+  accepted-good (CCopy from) h =
+      opened-each (λ (l : Left). l .said .refusal ≡ 0 → sheetRefusal (l .state) ≡ 0) from (refusedOf b) (λ s. storedOf (sheetWriteOf One s b))
+      (λ n z. absurd (n z)) (λ g z. stored-accepted (stateIn from) b (sym (stored-said (stateIn from) b) ∙ z) (four-told from)) h
+  accepted-good (CWrite r x) h = stays-good b (done-before (λ s. writeOf s r x) h) (CWrite r x)
+  accepted-good (CRead r) h = stays-good b (done-before (λ s. readOf s r) h) (CRead r)
+  accepted-good (CPins p) h = stays-good b (done-before (λ s. pinsOf s p) h) (CPins p)
+  accepted-good CReset h = stays-good b (done-before resetOf h) CReset
+  accepted-good CGrant h = stays-good b (done-before grantOf h) CGrant
+  accepted-good CEntitled h = look-before _ h
+  accepted-good CStatus h = look-before _ h
+  accepted-good (CRun m d r limit eop) h =
+      stays-good b (good-before (λ (l : RunLeft). l .said .refusal) b (λ n. runLeft (runRefused n) b m r) (λ s. runDoneOf b (ranOf s m d r limit eop)) refl h) (CRun m d r limit eop)
+  accepted-good (CRound m d r k) h =
+      stays-good b (good-before (λ (l : RoundLeft). l .said .refusal) b (λ n. roundLeft (roundRefused n) b m r) (λ s. roundDoneOf b (roundedOf s m d r k)) refl h) (CRound m d r k)
+
+  copied-into : (to : List ℕ) → sheetRefusal b ≡ 0 → 56 ≤ length to → does to (CCopy b) .refusal ≡ 0
+  copied-into to good room =
+      opened-each (λ (l : Left). l .said .refusal ≡ 0) b (refusedOf to) (λ s. storedOf (sheetWriteOf One s to)) (λ n. absurd (n good))
+      (λ g. stored-said (stateIn b) to ∙ write-free One (stateIn b) (length to) (read fresh b g) room)
+
+  sheet-not-1 : ¬ (sheetRefusal b ≡ 1)
+  sheet-not-1 = not-by-1 fresh (SheetReading b) fresh-valid
+
+  state-not-1 : (op : Op) → sheetRefusal b ≡ 0 → ¬ (said (stateIn b) op ≡ 1)
+  state-not-1 op good = not-by-1 (stateIn b) op (read fresh b good)
+
+never-1 : (b : List ℕ) (c : Call) → ¬ (does b c .refusal ≡ 1)
+never-1 b CFresh = not-by-1 fresh (SheetWriting b) fresh-valid
+never-1 b CCheck = sheet-not-1 b
+never-1 b (CCopy from) =
+    opened-each (λ (l : Left). ¬ (l .said .refusal ≡ 1)) from (refusedOf b) (λ s. storedOf (sheetWriteOf One s b)) (λ n. sheet-not-1 from) (state-not-1 from (SheetWriting b))
+never-1 b (CWrite r x) = opened-each (λ (l : Left). ¬ (l .said .refusal ≡ 1)) b (refusedOf b) (λ s. doneOf b (writeOf s r x)) (λ n. sheet-not-1 b) (state-not-1 b (Write r x))
+never-1 b (CRead r) = opened-each (λ (l : Left). ¬ (l .said .refusal ≡ 1)) b (refusedOf b) (λ s. doneOf b (readOf s r)) (λ n. sheet-not-1 b) (state-not-1 b (Read r))
+never-1 b (CPins p) = opened-each (λ (l : Left). ¬ (l .said .refusal ≡ 1)) b (refusedOf b) (λ s. doneOf b (pinsOf s p)) (λ n. sheet-not-1 b) (state-not-1 b (Pins p))
+never-1 b CReset = opened-each (λ (l : Left). ¬ (l .said .refusal ≡ 1)) b (refusedOf b) (λ s. doneOf b (resetOf s)) (λ n. sheet-not-1 b) (state-not-1 b Reset)
+never-1 b CGrant = opened-each (λ (l : Left). ¬ (l .said .refusal ≡ 1)) b (refusedOf b) (λ s. doneOf b (grantOf s)) (λ n. sheet-not-1 b) (state-not-1 b Grant)
+never-1 b CEntitled = opened-each (λ (t : Told). ¬ (t .refusal ≡ 1)) b (λ n. told n 0) _ (λ n. sheet-not-1 b) (λ g e. number 0 (sym e))
+never-1 b CStatus = opened-each (λ (t : Told). ¬ (t .refusal ≡ 1)) b (λ n. told n 0) _ (λ n. sheet-not-1 b) (λ g e. number 0 (sym e))
+never-1 b (CRun m d r limit eop) =
+    opened-each (λ (l : RunLeft). ¬ (l .said .refusal ≡ 1)) b (λ n. runLeft (runRefused n) b m r) (λ s. runDoneOf b (ranOf s m d r limit eop))
+    (λ n. sheet-not-1 b) (state-not-1 b (Run m d r limit eop))
+never-1 b (CRound m d r k) =
+    opened-each (λ (l : RoundLeft). ¬ (l .said .refusal ≡ 1)) b (λ n. roundLeft (roundRefused n) b m r) (λ s. roundDoneOf b (roundedOf s m d r k))
+    (λ n. sheet-not-1 b) (state-not-1 b (Round m d r k))
+
 pub sheets-stay-good : SheetsStayGood
 sheets-stay-good =
-    record { good = λ b c h. stays-good b h c; next = λ b c then h other. next-small (does b c .leaves .state) (stays-good b h c) then other }
+    record {
+      accepted = accepted-good;
+      good = λ b c h. stays-good b h c;
+      next = λ b c then h other. next-small (does b c .leaves .state) (stays-good b h c) then other;
+      copied = λ b to c h. copied-into (does b c .leaves .state) to (stays-good b h c);
+      neverBy1 = never-1;
+    }

@@ -47,7 +47,7 @@ use Rattle.words.proofs.ChoiceLaws.{when-hit, never}
 use Rattle.am9517_service.proofs.AnswerLaws.{run-accepted}
 use Rattle.am9517_service.proofs.LegRunLaws.{run-ends}
 use Rattle.am9517_sheet.proofs.SheetLaws.{number-said}
-use Rattle.demands.proofs.Refusals.{ran-told, round-told}
+use Rattle.am9517_service.proofs.StatedLaws.{ran-told, round-told}
 
 run-free : (s : Controller) (m : List ℕ) → valid s ≡ true → eqb (s .«in_service») 0 ≡ false → length m ≡ 65536 → refusal (runGrounds s m) ≡ 0
 unfolding refusal first when
@@ -218,9 +218,11 @@ worked-cases = all-both proved-cases (all-both whole-cases limit-cases)
 
 pub tight : Tight
 unfolding active requestCounts entitled
-tight m h =
-    subst (All (Contends 3)) (sym (p5-calls m h))
-    (also (record { rotation = refl; entitled = refl })
-    (also (record { rotation = refl; entitled = refl })
-    (also (record { rotation = refl; entitled = refl })
-    (also (record { rotation = refl; entitled = refl }) (also (record { rotation = refl; entitled = refl }) none)))))
+tight m h = (
+  subst (All (Contends 3)) (sym (p5-calls m h))
+      (also (record { rotation = refl; entitled = refl })
+      (also (record { rotation = refl; entitled = refl })
+      (also (record { rotation = refl; entitled = refl })
+      (also (record { rotation = refl; entitled = refl }) (also (record { rotation = refl; entitled = refl }) none))))),
+  ap channels (p5-calls m h),
+)

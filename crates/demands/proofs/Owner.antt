@@ -4,6 +4,7 @@ use Rattle.demands.proofs.Refusals.{demand-1}
 use Rattle.demands.proofs.Calls.{demand-1-of-calls, sheets-stay-good}
 use Rattle.demands.proofs.Outcomes.{one-outcome, one-outcome-where-asked}
 use Rattle.demands.proofs.Ranges.{ranges-kept}
+use Rattle.demands.proofs.Steps.{steps-over-the-width}
 use Rattle.demands.proofs.Sheets.{round-trips}
 use Rattle.demands.proofs.Rounds.{round-is-calls, spelled-leads, round-stops}
 use Rattle.demands.proofs.Fairness.{demand-3, demand-3-reported, lowest-kept}
@@ -16,6 +17,7 @@ owner =
       refusalsInC = demand-1-of-calls;
       oneOutcome = one-outcome;
       oneOutcomeWhereAsked = one-outcome-where-asked;
+      steps = steps-over-the-width;
       cases = worked-cases;
       sheetTrips = round-trips;
       ranges = ranges-kept;

@@ -133,7 +133,7 @@ never-1 s (SheetWriting out) v = also (λ q. ap not v) (also (other 9 _ (λ e. o
 never-1 s (SheetReading bytes) v =
     also (other 9 _ (λ e. omega arith)) (also (other 10 _ (λ e. omega arith)) (also (other 11 _ (λ e. omega arith)) (also (other 12 _ (λ e. omega arith)) (also (other 13 _ (λ e. omega arith)) (also (other 14 _ (λ e. omega arith)) none)))))
 
-not-by-1 : (s : Controller) (op : Op) → valid s ≡ true → ¬ (said s op ≡ 1)
+pub not-by-1 : (s : Controller) (op : Op) → valid s ≡ true → ¬ (said s op ≡ 1)
 not-by-1 s op v e = none-first (grounds s op) (never-1 s op v) (demand-1 s op .exactly 1 (λ z. omega arith) .0 e)
 
 pub fresh-valid : valid fresh ≡ true

@@ -1,28 +1,26 @@
 -- Demand 1, for each operation from its own definition.
-use Prim.Native.Nat.{ℕ, zero, suc}
+use Prim.Native.Nat.{ℕ}
 use mathlib.Core.Path.{_≡_, refl, sym, ap, _∙_}
 use mathlib.Core.Bool.{Bool, true, false}
 use mathlib.Core.List.{List, [], _∷_}
 use mathlib.Core.Logic.{_↔_}
-use lib.Dec.{eqb}
-use borrow.Author.Tests.{ne-eqb, eqb-true}
+use borrow.Author.Tests.{ne-eqb}
 use Rattle.words.specs.Choice.{when}
 use Rattle.words.specs.Grounds.{Ground, first}
 use Rattle.am9517.specs.Refusals.{refusal}
 use Rattle.am9517.specs.Answers.{outcome}
 use Rattle.am9517.specs.declared.Controller.{Controller}
 use Rattle.am9517.specs.declared.Answer.{Answer}
-use Rattle.am9517_service.specs.World.{Stop}
-use Rattle.am9517_service.specs.Answers.{given, runRefusalNumber, stopped, refusedOf, ranOf, runGrounds}
 use Rattle.am9517_service.specs.declared.RoundAnswer.the-variants.{Refused}
-use Rattle.am9517_service.specs.Round.{Course, Close, beginning, close, afterNext, roundOf}
-use Rattle.am9517_service.specs.RoundAnswers.{roundRefusalNumber, closed, roundGrounds, roundedOf}
+use Rattle.am9517_service.specs.Round.{beginning, close}
+use Rattle.am9517_service.specs.RoundAnswers.{closed, roundGrounds, roundedOf}
 use Rattle.demands.specs.Lists.{All, none, also}
 use Rattle.demands.specs.Operations.{Op, Write, Read, Pins, Reset, Grant, Run, Round, SheetWriting, SheetReading, before, after, said, counts, ranScene, roundScene}
 use Rattle.demands.specs.Refusals.{First, here, later, grounds, Refuses, Demand1}
-use Rattle.words.proofs.ChoiceLaws.{when-both, when-miss}
+use Rattle.words.proofs.ChoiceLaws.{when-miss}
 use Rattle.am9517.proofs.RefusalLaws.{number-told}
 use Rattle.am9517_service.proofs.AnswerLaws.{run-refused}
+use Rattle.am9517_service.proofs.StatedLaws.{ran-told, round-told}
 use Rattle.am9517_sheet.proofs.SheetLaws.{number-said}
 
 -- by whether the first ground holds, and what is known of those after it
@@ -64,33 +62,6 @@ refuses s op is stays zeros =
 outcome-stays : (n : ℕ) (s t : Controller) (a : Answer) → ¬ (n ≡ 0) → outcome n s t a .controller ≡ s
 unfolding outcome when
 outcome-stays n s t a h = rw (ne-eqb n 0 h)
-
--- a run
-ran-by : (n : ℕ) (t : Bool) (x : Stop) (s : Controller) (m r : List ℕ) → eqb n 0 ≡ t → runRefusalNumber (when t (stopped x) (given (refusedOf s n) m r) .ran .answer) ≡ n
-unfolding when stopped
-ran-by n true x s m r e = sym (eqb-true _ _ e)
-ran-by n false x s m r e = refl
-
-pub ran-told : (s : Controller) (m d r : List ℕ) (limit eop : ℕ) → runRefusalNumber (ranOf s m d r limit eop .ran .answer) ≡ refusal (runGrounds s m)
-unfolding ranOf
-ran-told s m d r limit eop = ran-by (refusal (runGrounds s m)) _ _ s m r refl
-
--- a round
-round-number : (left : ℕ) (d : List ℕ) (w : Course) → roundRefusalNumber (roundOf left d w .answer) ≡ 0
-unfolding roundOf first
-round-number zero d w = refl
-round-number (suc left) d w =
-    let P : Close → Type 0 = λ x. roundRefusalNumber (x .answer) ≡ 0 in
-    when-both P _ refl (when-both P _ refl (round-number left d (afterNext w d)))
-
-round-by : (n : ℕ) (t : Bool) (x : Close) (w : Course) → eqb n 0 ≡ t → roundRefusalNumber (x .answer) ≡ 0 → roundRefusalNumber (when t (closed x) (closed (close w (Refused n))) .rounded .answer) ≡ n
-unfolding when closed
-round-by n true x w e h = h ∙ sym (eqb-true _ _ e)
-round-by n false x w e h = refl
-
-pub round-told : (s : Controller) (m d r : List ℕ) (k : ℕ) → roundRefusalNumber (roundedOf s m d r k .rounded .answer) ≡ refusal (roundGrounds s m k)
-unfolding roundedOf
-round-told s m d r k = round-by (refusal (roundGrounds s m k)) _ _ _ refl (round-number k d (beginning s m r))
 
 pub round-refused : (s : Controller) (m d r : List ℕ) (k : ℕ) → ¬ (refusal (roundGrounds s m k) ≡ 0)
     → roundedOf s m d r k ≡ closed (close (beginning s m r) (Refused (refusal (roundGrounds s m k))))

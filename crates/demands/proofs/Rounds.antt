@@ -41,7 +41,8 @@ use Rattle.am9517_service.proofs.KeepLaws.{Counted, run-counted, Left, run-left
 use Rattle.am9517_service.proofs.GrantLaws.{granted-open, granted-runs, grant-some, picked-below}
 use Rattle.am9517_service.proofs.RoundLaws.{round-accepted, round-open, ended-is, tail-length}
 use Rattle.demands.proofs.StopLaws.{never-dropped, granted-undropped, never-limit, run-words, granted-words}
-use Rattle.demands.proofs.Refusals.{round-told, round-refused}
+use Rattle.am9517_service.proofs.StatedLaws.{round-told}
+use Rattle.demands.proofs.Refusals.{round-refused}
 
 -- one service more of channel n, and of the others as many as before
 one-more : (l : List ℕ) (n i : ℕ) → n < length l → getD (set l n (getD l n 0 + 1)) i 0 ≡ getD l i 0 + when (eqb n i) 1 0
@@ -212,8 +213,8 @@ module _ (d : List ℕ) (w : Course) (at : Stands w) (some : nobody (w .controll
       }
 
 -- the calls behind a run that gave this
-abbrev currentAfter : ℕ → List ℕ → Given → List Op
-currentAfter left d y =
+abbrev callsAfter : ℕ → List ℕ → Given → List Op
+callsAfter left d y =
     first ([] if not (hasEnded (y .ran .answer)) ∷ [])
     (callsFrom left (y .ran .controller) (y .memory) (drop (y .ran .counts .used) d) (drop (y .ran .counts .written) (y .room)))
 
@@ -231,7 +232,7 @@ module _ (left : ℕ) (d : List ℕ) (w : Course) (at : Stands w) (some : nobody
 
   -- behind a run that ended the round goes on; behind any other it stops
   leads-behind : (isEnded why ≡ true → Leads on why left (roundOf left d on) (callsFrom left (on .controller) (on .memory) (bytesLeft d on) (roomLeft on)))
-      → Leads on why left (stopOrOn left d w) (currentAfter left (bytesLeft d w) (stopped (runNext w d)))
+      → Leads on why left (stopOrOn left d w) (callsAfter left (bytesLeft d w) (stopped (runNext w d)))
   unfolding stopped first withRun
   leads-behind further =
       when-two (Leads on why left) (not (isEnded why)) (λ u. leads-nowhere _ _ left _ refl (sym (when-miss (isEnded why) _ _ (not-true _ u))))
@@ -245,7 +246,7 @@ leads (suc left) d w e h at =
     when-two (Leads w e (suc left)) (nobody (w .controller))
     (λ none. leads-nowhere w e (suc left) (close w Quiet) refl (sym (when-hit (isEnded e) _ _ h ∙ when-miss (eqb 0 (suc left)) _ _ (eqb·zero-suc left))))
     (λ some. first-two d w at some e left _ _
-    (subst (λ (y : Given). Leads (afterNext w d) (runNext w d .reason) left (stopOrOn left d w) (currentAfter left (bytesLeft d w) y)) (sym (given d w at some))
+    (subst (λ (y : Given). Leads (afterNext w d) (runNext w d .reason) left (stopOrOn left d w) (callsAfter left (bytesLeft d w) y)) (sym (given d w at some))
     (leads-behind left d w at some (λ u. leads left d (afterNext w d) (runNext w d .reason) u (stands-on d w at some u)))))
 
 zeros : (i : ℕ) → getD {A = ℕ} (0 ∷ 0 ∷ 0 ∷ 0 ∷ []) i 0 ≡ 0

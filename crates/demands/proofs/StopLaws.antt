@@ -222,7 +222,7 @@ never-limit left eop d w h most =
     (λ n x p z. absurd (omega (arith, p .0))) (λ n x p z. dropped-not-limit)
     (λ n x p tc. (omega (arith, p .0, p .1, eqb-false (runCount (x .controller)) 0 tc, count-falls x d (omega (arith, p .0, p .1)) tc), omega (arith, p .1))) left w (h, most)
 
--- Counts fit 16 bits all addressAfter a run.
+-- Counts fit 16 bits all along a run.
 abbrev Fits : Channel → Type 0
 Fits ch = (ch .count < 65536) × (ch .«base_count» < 65536)
 

@@ -136,11 +136,17 @@ abbrev pub Demand1OfCalls : Type 0
 Demand1OfCalls = (b : List ℕ) (c : Call) → CallRefuses (does b c) (callGrounds b c) (lentTo b c)
 
 pub record SheetsStayGood : Type 0 where
-  -- A call on a good sheet leaves a good one, whatever it says;
+  -- An accepted call leaves a good sheet, whatever stood there;
+  pub accepted : (b : List ℕ) (c : Call) → does b c .refusal ≡ 0 → sheetRefusal (does b c .leaves .state) ≡ 0
+  -- a call on a good sheet leaves a good one, whatever it says;
   pub good : (b : List ℕ) (c : Call) → sheetRefusal b ≡ 0 → sheetRefusal (does b c .leaves .state) ≡ 0
-  -- so the next call is refused by no fault of that sheet, 9 to 14, but by its operation's own grounds, if at all. (A copy may be, by
-  -- the sheet that it copies.)
+  -- so the next call is refused by no fault of that sheet, 9 to 14, but by its operation's own grounds, if at all (a copy may be, by
+  -- the sheet that it copies);
   pub next : (b : List ℕ) (c then : Call)
       → sheetRefusal b ≡ 0
       → ((from : List ℕ) → ¬ (then ≡ CCopy from))
       → does (does b c .leaves .state) then .refusal ≤ 8
+  -- and it can be copied into any bytes that have room.
+  pub copied : (b to : List ℕ) (c : Call) → sheetRefusal b ≡ 0 → 56 ≤ length to → does to (CCopy (does b c .leaves .state)) .refusal ≡ 0
+  -- No call is refused by 1.
+  pub neverBy1 : (b : List ℕ) (c : Call) → ¬ (does b c .refusal ≡ 1)

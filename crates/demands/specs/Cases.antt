@@ -1,4 +1,4 @@
--- Demand 2: document 01's worked cases, as one list under one statement.
+-- Demand 2, document 01's worked cases: "P1 to P9 are shown of the rules themselves, as one list under one statement."
 use Prim.Native.Nat.{ℕ, zero, suc}
 use mathlib.Core.Path.{_≡_}
 use mathlib.Core.List.{List, [], _∷_, _++_}
@@ -73,13 +73,13 @@ service was is command device eop tc mask transfers states memory =
       expected = λ m. Gives device eop (ends (idleWith is blank command tc mask 0) transfers (length device) states (memory m));
     }
 
--- count 0, block write, 5Ah at 1234h: one byte, address 1235h, count FFFFh, TC and mask set, 4 states
+-- "P1 idle, count 0, block write, 5Ah at 1234h: one byte, address 1235h, count FFFFh, TC and mask set, 4 states."
 abbrev pub p1 : Case
 p1 =
     service (ch 0x1234 0x1234 0 0 0x84) (ch 0x1234 0x1235 0 0xFFFF 0x84) 0 (0x5A ∷ []) 0 1 15 1 4
     (λ m. set m 0x1234 0x5A)
 
--- up from FFFEh, count 3: FFFE, FFFF, 0000, 0001; 14 states, compressed 10
+-- "P2 up from FFFEh, count 3: FFFE, FFFF, 0000, 0001; 14 states, compressed 10."
 abbrev pub p2 : Case
 p2 =
     service (ch 0xFFFE 0xFFFE 3 3 0x84) (ch 0xFFFE 2 3 0xFFFF 0x84) 0 (1 ∷ 2 ∷ 3 ∷ 4 ∷ []) 0 1 15 4 14
@@ -90,7 +90,7 @@ p2compressed =
     service (ch 0xFFFE 0xFFFE 3 3 0x84) (ch 0xFFFE 2 3 0xFFFF 0x84) 8 (1 ∷ 2 ∷ 3 ∷ 4 ∷ []) 0 1 15 4 10
     (λ m. set (set (set (set m 0xFFFE 1) 0xFFFF 2) 0x0000 3) 0x0001 4)
 
--- down from 0001h, count 2: 0001, 0000, FFFF; 11 states
+-- "P3 down from 0001h, count 2: 0001, 0000, FFFF; 11 states."
 abbrev pub p3 : Case
 p3 =
     service (ch 1 1 2 2 0xA4) (ch 1 0xFFFE 2 0xFFFF 0xA4) 0 (1 ∷ 2 ∷ 3 ∷ []) 0 1 15 3 11
@@ -100,7 +100,7 @@ p3 =
 abbrev pub copied : ℕ → ℕ → List ℕ → List ℕ
 copied a b m = set m b (getD m a 0)
 
--- memory-to-memory, channel 1 count 2: three bytes, 24 states
+-- "P4 memory-to-memory, channel 1 count 2: three bytes, 24 states."
 abbrev pub p4 : Case
 p4 =
     record {
@@ -129,7 +129,7 @@ abbrev pub services : List ℕ → ℕ → List Op
 services m zero = []
 services m (suc k) = Grant ∷ Run m [] [] 65536 0 ∷ services m k
 
--- fresh, rotating, four lines held unmasked, single, count 9: grants 0, 1, 2, 3, 0
+-- "P5 fresh, rotating, four lines held unmasked, single, count 9: grants 0, 1, 2, 3, 0."
 abbrev pub p5 : Case
 p5 =
     record {
@@ -139,7 +139,7 @@ p5 =
       expected = λ m. Serves (0 ∷ 1 ∷ 2 ∷ 3 ∷ 0 ∷ []);
     }
 
--- lowest 1, lines 1 and 3 held: 3, 1, 3
+-- "P6 lowest 1, lines 1 and 3 held: 3, 1, 3."
 abbrev pub p6 : Case
 p6 =
     record {
@@ -149,21 +149,21 @@ p6 =
       expected = λ m. Serves (3 ∷ 1 ∷ 3 ∷ []);
     }
 
--- count 9, block, EOP at transfer 2: count 7, TC clear, mask set
+-- "P7 count 9, block, EOP at transfer 2: count 7, TC clear, mask set."
 abbrev pub p7 : Case
 p7 =
     service (ch 0 0 9 9 0x84) (ch 0 2 9 7 0x84) 0 (1 ∷ 2 ∷ []) 2 0 15 2 7
     (λ m. set (set m 0 1) 1 2)
 
--- autoinitialize, count 0: count 0 again, TC set, mask kept
+-- "P8 autoinitialize, count 0: count 0 again, TC set, mask kept."
 abbrev pub p8 : Case
 p8 = service (ch 0x40 0x40 0 0 0x94) (ch 0x40 0x40 0 0 0x94) 0 (7 ∷ []) 0 1 14 1 4 (λ m. set m 0x40 7)
 
--- fresh but for command 40h, pins 0: status F0h
+-- "P9 fresh but for command 40h, pins 0: status F0h."
 abbrev pub p9 : Case
 p9 = record { size = 65536; start = put fresh Command 0x40; calls = λ m. []; expected = λ m. Reads 8 0xF0 }
 
--- count FFFFh up (block, verify): 65,536 transfers; 196,864 states from 0000h, 196,865 from 0001h
+-- "Count FFFFh up: 65,536 transfers; 196,864 states from 0000h, 196,865 from 0001h": block, verify
 abbrev pub wholeFrom0 : Case
 wholeFrom0 = service (ch 0 0 0xFFFF 0xFFFF 0x80) (ch 0 0 0xFFFF 0xFFFF 0x80) 0 [] 0 1 15 65536 196864 (λ m. m)
 
@@ -186,7 +186,8 @@ proved = p1 ∷ p2 ∷ p2compressed ∷ p3 ∷ p4 ∷ p5 ∷ p6 ∷ p7 ∷ p8 �
 abbrev pub whole : List Case
 whole = wholeFrom0 ∷ wholeFrom1 ∷ []
 
--- register 15 and 16; k 4,096 and 4,097; slices of 55 and 56; memories of 65,535, 65,536 and 65,537 for a run and for a round
+-- "Write of register 15 accepted, of 16 refused (2), read of 15 refused (4); k 4,096 and 4,097; slice 55 and 56; memory 65,535, 65,536
+-- and 65,537": slices for writing and for reading, memories for a run and for a round
 abbrev pub limits : List Case
 limits =
     called 0 (λ m. Write 15 0) 0
@@ -212,6 +213,8 @@ cases = proved ++ (whole ++ limits)
 abbrev pub WorkedCases : Type 0
 WorkedCases = All Holds cases
 
--- Demand 3's numbers can't be better: in P5 channel 3 contends at each grant; that it waits for three others and is led by one, P5's list shows.
+-- Demand 3's numbers can't be better: in P5 channel 3 contends at each grant, waits for three others, and is led by one.
 abbrev pub Tight : Type 0
-Tight = (m : List ℕ) → length m ≡ p5 .size → All (Contends 3) (grants (p5 .start) (p5 .calls m))
+Tight =
+    (m : List ℕ) → length m ≡ p5 .size
+    → All (Contends 3) (grants (p5 .start) (p5 .calls m)) × (channels (grants (p5 .start) (p5 .calls m)) ≡ 0 ∷ 1 ∷ 2 ∷ 3 ∷ 0 ∷ [])

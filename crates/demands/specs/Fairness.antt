@@ -1,4 +1,5 @@
--- Demand 3: under rotation nobody waits for more than three others.
+-- Demand 3: under rotation nobody waits for more than three others. "Demand 3 speaks of grants as the section "Who may be served" makes
+-- them": those that `grant` itself answers (told, below).
 use Prim.Native.Nat.{ℕ, _+_, _/_, _≤_, _<_}
 use mathlib.Core.Path.{_≡_}
 use mathlib.Core.Bool.{true}
@@ -47,8 +48,8 @@ pub record Fair (c : ℕ) (served : List ℕ) : Type 0 where
   -- and no other channel gets more than one above its number.
   pub lead : (d : ℕ) → ¬ (d ≡ c) → count d served ≤ count c served + 1
 
--- Whatever is called from whatever state, accepted or refused, in whatever order, rounds among it: in any stretch of successive grants,
--- cut where you like, inside a round too, a channel that contends at each is served fairly.
+-- Whatever is called from whatever state, accepted or refused, in whatever order, rounds among it, but for an accepted reset, master
+-- clear or sheet reading: in any stretch of successive grants, cut where you like, inside a round too, a channel that contends at each is served fairly.
 abbrev pub Demand3 : Type 0
 Demand3 =
     (s : Controller) (ops : List Op) (c : ℕ) (past window rest : List Granted)

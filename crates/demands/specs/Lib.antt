@@ -10,4 +10,5 @@ pub mod Ranges
 pub mod Calls
 pub mod Cases
 pub mod Sheets
+pub mod Steps
 pub mod Owner

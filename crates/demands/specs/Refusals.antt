@@ -15,7 +15,8 @@ use Rattle.am9517_sheet.specs.Sheet.{sheetWriteGrounds, sheetReadGrounds}
 use Rattle.demands.specs.Lists.{All}
 use Rattle.demands.specs.Operations.{Op, Write, Read, Pins, Reset, Grant, Run, Round, SheetWriting, SheetReading, before, after, said, counts}
 
--- document 01's table, in its order for each operation: the very lists of the crates
+-- document 01's table of numbers, each "given exactly when" its ground is the first that holds; in its order for each operation: the very
+-- lists of the crates
 abbrev pub grounds : Controller → Op → List (Ground ℕ)
 grounds s (Write r b) = writeGrounds s r b
 grounds s (Read r) = readGrounds s r

@@ -1,10 +1,10 @@
 // Reads a script from standard input, or from the file that the argument names, and writes the console's answers.
 use console_session::Session;
 use console_session::feed;
+use console_text::line::same;
 use libc::STDERR_FILENO;
 use libc::STDIN_FILENO;
 use libc::STDOUT_FILENO;
-use console_text::line::same;
 
 // No answer is longer than this: 70,000 bytes as digits, a word and a newline.
 const ANSWER: usize = 150000;

@@ -1,4 +1,4 @@
--- The step of an address or a count by one, up or down, modulo 2 ^ w: stated once over the width w.
+-- The step of an address or a count by one, up or down, modulo 2 ^ w. "The step of address and count is shown once over the width": w.
 use Prim.Native.Nat.{ℕ, _+_, _-_, _*_, _%_, _^_}
 use mathlib.Core.Bool.{Bool}
 use Rattle.words.specs.Choice.{when}

@@ -20,13 +20,13 @@ done-requires : tie.Need-done-requires
 done-requires c κs =
     let at-grant = c .before .before in let at-told = at-grant .before in let at-if1 = at-told .before .before in let at-wide = at-if1 .before in
     let at-seal-refusal = at-wide .before in
-    (sym (at-wide .wide .ensures .0 ∙ at-seal-refusal .seal-refusal .ensures) ∙ at-if1 .if1 .left, ap (λ (o : Outcome). eqb (refusalNumber (o .answer)) 1) (at-grant .grant .ensures) ∙ grant-asked (at-told .told .result) ∙ ap (λ (s : Controller). not (valid s)) (at-told .told .ensures))
+    (sym (at-wide .wide .ensures .0 ∙ at-seal-refusal .seal-refusal .ensures) ∙ at-if1 .if1 .left, ap (λ (o : Outcome). eqb (refusalNumber (o .answer)) 1) (at-grant .grant .ensures .0) ∙ grant-asked (at-told .told .result) ∙ ap (λ (s : Controller). not (valid s)) (at-told .told .ensures))
 
 returns-2 : tie.Need-returns-2
 returns-2 c =
     let at-done = c .before .before in let at-body-of = at-done .before in let at-grant = at-body-of .before .before in
     let at-told = at-grant .before in let entry = at-told .before .before .before .before .before .before .before in
-    at-done .done .ensures (at-grant .grant .result .controller) (at-body-of .body-of .ensures) ∙ called grantOf (entry .args .state .now) (at-told .told .result) (at-grant .grant .result) (at-told .told .ensures) (at-grant .grant .ensures)
+    at-done .done .ensures (at-grant .grant .result .controller) (at-body-of .body-of .ensures) ∙ called grantOf (entry .args .state .now) (at-told .told .result) (at-grant .grant .result) (at-told .told .ensures) (at-grant .grant .ensures .0)
 
 pub am9517-grant-spec : {M : Type 1} → statement M
 am9517-grant-spec = tie.close (tie.spec (search needs) (search needs) (search needs) returns (search needs) (search needs) (search needs)

@@ -19,7 +19,7 @@ returns-2 c =
     let at-keep = c .before .before in let at-body-of = at-keep .before in let at-round-told-of = at-body-of .before .before in
     let at-round = at-round-told-of .before .before .before .before .before in let at-if1 = at-round .before .before .before in
     let at-opened = at-if1 .before .before in
-    simp (at-keep .keep .ensures (at-round .round .result .controller) (at-body-of .body-of .ensures), at-round-told-of .round-told-of .ensures) (ap (roundDoneOf _) (at-round .round .ensures) ∙ opened-good _ _ (at-opened .opened .ensures) _ _ (at-if1 .if1 .left))
+    simp (at-keep .keep .ensures (at-round .round .result .controller) (at-body-of .body-of .ensures), at-round-told-of .round-told-of .ensures) (ap (roundDoneOf _) (at-round .round .ensures .0) ∙ opened-good _ _ (at-opened .opened .ensures) _ _ (at-if1 .if1 .left))
 
 pub am9517-round-spec : {M : Type 1} → statement M
 am9517-round-spec = tie.close (tie.spec (search needs) (search needs) returns (search needs) (search needs) (search needs) keep-requires

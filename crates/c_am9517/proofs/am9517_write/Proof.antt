@@ -20,13 +20,13 @@ done-requires : tie.Need-done-requires
 done-requires c κs =
     let at-write = c .before .before in let at-told = at-write .before in let at-if1 = at-told .before .before in let at-wide = at-if1 .before in
     let at-seal-refusal = at-wide .before in let entry = at-seal-refusal .before .before .before in
-    (sym (at-wide .wide .ensures .0 ∙ at-seal-refusal .seal-refusal .ensures) ∙ at-if1 .if1 .left, ap (λ (o : Outcome). eqb (refusalNumber (o .answer)) 1) (at-write .write .ensures) ∙ write-asked (at-told .told .result) (entry .args .register) (entry .args .byte) ∙ ap (λ (s : Controller). not (valid s)) (at-told .told .ensures))
+    (sym (at-wide .wide .ensures .0 ∙ at-seal-refusal .seal-refusal .ensures) ∙ at-if1 .if1 .left, ap (λ (o : Outcome). eqb (refusalNumber (o .answer)) 1) (at-write .write .ensures .0) ∙ write-asked (at-told .told .result) (entry .args .register) (entry .args .byte) ∙ ap (λ (s : Controller). not (valid s)) (at-told .told .ensures))
 
 returns-2 : tie.Need-returns-2
 returns-2 c =
     let at-done = c .before .before in let at-body-of = at-done .before in let at-write = at-body-of .before .before in
     let at-told = at-write .before in let entry = at-told .before .before .before .before .before .before .before in
-    number-only (λ (s : Controller). writeOf s (entry .args .register) (entry .args .byte)) (entry .args .state .now) (λ s. no-value _ _ _) (at-done .done .result) _ (at-done .done .ensures (at-write .write .result .controller) (at-body-of .body-of .ensures) ∙ called (λ (s : Controller). writeOf s (entry .args .register) (entry .args .byte)) (entry .args .state .now) (at-told .told .result) (at-write .write .result) (at-told .told .ensures) (at-write .write .ensures))
+    number-only (λ (s : Controller). writeOf s (entry .args .register) (entry .args .byte)) (entry .args .state .now) (λ s. no-value _ _ _) (at-done .done .result) _ (at-done .done .ensures (at-write .write .result .controller) (at-body-of .body-of .ensures) ∙ called (λ (s : Controller). writeOf s (entry .args .register) (entry .args .byte)) (entry .args .state .now) (at-told .told .result) (at-write .write .result) (at-told .told .ensures) (at-write .write .ensures .0))
 
 pub am9517-write-spec : {M : Type 1} → statement M
 am9517-write-spec = tie.close (tie.spec (search needs) (search needs) (search needs) returns (search needs) (search needs) (search needs)

@@ -1,3 +1,4 @@
+use Rattle.am9517.specs.declared.Answer.the-variants.{Value}
 use Prim.Native.Nat.{ℕ, _/_, _%_, _≤_}
 use mathlib.Core.Path.{_≡_, refl, sym, ap, _∙_}
 use mathlib.Core.Logic.{⊎-elim}
@@ -11,7 +12,7 @@ use Rattle.am9517.specs.Registers.{portRead, value, afterRead}
 use Rattle.am9517.specs.Answers.{outcome, readOf}
 use Rattle.am9517.specs.declared.Controller.{Controller}
 use Rattle.am9517.specs.declared.Outcome.{Outcome}
-use Rattle.am9517.proofs.RefusalLaws.{read-valid}
+use Rattle.am9517.proofs.RefusalLaws.{stated, read-valid}
 use Rattle.am9517.proofs.RegisterLaws.{read-register, less, port-value, port-left}
 use Rattle.am9517.proofs.RangeLaws.{fields}
 use Rattle.am9517.proofs.Controller.read.Statement.{statement}
@@ -50,14 +51,14 @@ module _ (c : tie.After-answered) where
 
 returns : tie.Need-returns
 unfolding afterRead value first when portRead
-returns c =
+returns c = stated _ _ _ _ (Value _) refl (
     ⊎-elim (λ w. given c _ _ (w .0 .taken) (w .3) (w .4) (at c 8 _ (w .1 .keys1) refl) (at-value c 8 _ (w .1 .keys1) (sym (w .2 .ensures))))
     (⊎-elim (λ w. given c _ _ (w .0 .taken) (w .2) (w .3) (at c 0xD _ (w .1 .keys2) refl) (at-value c 0xD _ (w .1 .keys2) refl))
     (⊎-elim (λ w.
     let small : reg c ≤ 7 = less (reg c) 7 (read-register (s c) (reg c) (sym (c .before .before .read-refusal .ensures) ∙ w .0 .taken) (w .1 .rest .1)) (w .1 .rest .0 .1) in
     let port : reg c / 2 % 4 ≡ reg c / 2 = mod-eq-of-lt (omega arith) in
     given c _ _ (w .0 .taken) (w .6) (w .7) (port-left (s c) (reg c) small ∙ simp (w .5 .ensures)) (port-value (s c) (reg c) small ∙ simp (port, w .4 .ensures, w .3 .ensures)))
-    (λ w. kept c (w .0 .left) (w .1)))) (c .before .if1 .came)
+    (λ w. kept c (w .0 .left) (w .1)))) (c .before .if1 .came))
 
 pub read-spec : {M : Type 1} → statement M
 read-spec = tie.close (tie.spec (search needs) (search needs) status-requires (search needs) (search needs) (search needs) (search needs)

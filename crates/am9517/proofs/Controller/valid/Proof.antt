@@ -24,15 +24,15 @@ pair-bytes c = (omega (arith, c .good), (omega (arith, c .good), tt))
 returns-2 : tie.Need-returns-2
 returns-2 c =
     let at-pair = c .before in let at-flags = at-pair .before in let at-if1 = at-flags .before in let at-modes-valid = at-if1 .before in
-    let at-that = at-modes-valid .before in
-    let s = at-that in
+    let entry = at-modes-valid .before in
+    let s = entry in
     sym (idle-told (s .args .self) (flag-bytes s) (pair-bytes s) (sym (at-modes-valid .modes-valid .ensures) ∙ not-false (at-modes-valid .modes-valid .result) (at-if1 .if1 .left)) (rw (sym (at-flags .flags .ensures), sym (at-pair .pair .ensures)) (c .if2 .taken)))
 
 returns-3 : tie.Need-returns-3
 returns-3 c =
     let at-if2 = c .before .before .before in let at-pair = at-if2 .before in let at-flags = at-pair .before in let at-if1 = at-flags .before in
-    let at-modes-valid = at-if1 .before in let at-that = at-modes-valid .before in
-    let s = at-that in
+    let at-modes-valid = at-if1 .before in let entry = at-modes-valid .before in
+    let s = entry in
     rw (at-flags .flags .ensures, at-pair .pair .ensures)
     (open-is (s .args .self) (flag-bytes s) (pair-bytes s) (sym (at-modes-valid .modes-valid .ensures) ∙ not-false (at-modes-valid .modes-valid .result) (at-if1 .if1 .left)) (rw (sym (at-flags .flags .ensures), sym (at-pair .pair .ensures)) (at-if2 .if2 .left)))
 

@@ -1,3 +1,5 @@
+use Rattle.am9517.specs.declared.Answer.the-variants.{Done}
+use Rattle.am9517.proofs.RefusalLaws.{stated}
 use Prim.Native.Nat.{ℕ, _/_, _%_, _≤_}
 use mathlib.Core.Path.{_≡_, refl, sym, ap, _∙_}
 use mathlib.Core.Logic.{⊎-elim}
@@ -43,7 +45,7 @@ module _ (c : tie.Joined1) where
 
 returns : tie.Need-returns
 unfolding afterWrite first when modeWritten portWritten
-returns c =
+returns c = stated _ _ _ _ Done refl (
     ⊎-elim (λ w. stored c _ (w .0 .taken) (w .2) (at c 8 _ (w .1 .keys1) refl))
     (⊎-elim (λ w. stored c _ (w .0 .taken) (w .4) (at c 9 _ (w .1 .keys2) (simp (w .3 .ensures, w .2 .ensures))))
     (⊎-elim (λ w. stored c _ (w .0 .taken) (w .4) (at c 0xA _ (w .1 .keys3) (simp (w .3 .ensures, w .2 .ensures))))
@@ -57,7 +59,7 @@ returns c =
     let port : reg c / 2 % 4 ≡ reg c / 2 = mod-eq-of-lt (omega arith) in
     ⊎-elim (λ v. stored c _ (w .0 .taken) (w .5) (port-after (s c) (reg c) (byte c) small ∙ simp (port, eq-eqb _ _ (v .0 .taken), w .4 .ensures, v .2, v .1 .ensures)))
     (λ v. stored c _ (w .0 .taken) (w .5) (port-after (s c) (reg c) (byte c) small ∙ simp (port, ne-eqb _ _ (v .0 .left), w .4 .ensures, v .2, v .1 .ensures))) (w .3 .came))
-    (λ w. kept c (w .0 .left) (w .1))))))))) (c .if1 .came)
+    (λ w. kept c (w .0 .left) (w .1))))))))) (c .if1 .came))
 
 pub write-spec : {M : Type 1} → statement M
 write-spec = tie.close (tie.spec (search needs) (search needs) (search needs) (search needs) (search needs) (search needs) (search needs)

@@ -1,3 +1,4 @@
+use Rattle.am9517_service.proofs.StatedLaws.{round-stated}
 use mathlib.Core.Bool.{true}
 use mathlib.Core.Path.{_≡_, refl, sym, _∙_}
 use native.Mathlib.Omega.{arith}
@@ -44,7 +45,8 @@ returns : tie.Need-returns Inv-loop μ-loop
 returns c =
     let at-if1 = c .before in let at-no-counts = at-if1 .before in let at-round-refusal = at-no-counts .before in
     let entry = at-round-refusal .before .before .before .before .before in
-    said-refused (entry .args .c) _ _ _ (entry .args .k) _ _ _ (at-no-counts .no-counts .ensures) (c .closed .ensures) (sym (at-round-refusal .round-refusal .ensures)) (at-if1 .if1 .taken)
+    round-stated _ _ _ _ _ _ _ _ (
+    said-refused (entry .args .c) _ _ _ (entry .args .k) _ _ _ (at-no-counts .no-counts .ensures) (c .closed .ensures) (sym (at-round-refusal .round-refusal .ensures)) (at-if1 .if1 .taken))
 
 cast-i : tie.Need-cast-i Inv-loop μ-loop
 cast-i c = let h = fields (c .before .before .before .before .before .before .before .before .before .args .c) (opened (c .before .before) .0) .lowest in omega arith
@@ -109,8 +111,8 @@ copy-leg-requires c κs = let h = c .before .bounded-channel2 .ensures .2 in (om
 copy-bytes-requires : tie.Need-copy-bytes-requires Inv-loop μ-loop
 copy-bytes-requires c κs =
     let at-bounded-channel2 = c .before .before .before .before .before in
-    let at-that = at-bounded-channel2 .before .before .before .before .before .before .before in
-    let g = still (at-that) in let h = at-bounded-channel2 .bounded-channel2 .ensures .2 in (g .rolling .memory, omega arith, omega arith)
+    let entry = at-bounded-channel2 .before .before .before .before .before .before .before in
+    let g = still (entry) in let h = at-bounded-channel2 .bounded-channel2 .ensures .2 in (g .rolling .memory, omega arith, omega arith)
 
 mul-from : tie.Need-mul-from Inv-loop μ-loop
 mul-from c = let h = below (c .before .before .before .before .before .before .before .before .before .before .before .before .before .before .before .before .before .before .before .before .before .before .before .before .before .before .before) in omega arith
@@ -121,8 +123,8 @@ element-set-from-from c = below (c .before .before .before .before .before .befo
 copied-counts-requires : tie.Need-copied-counts-requires Inv-loop μ-loop
 copied-counts-requires c κs =
     let at-bounded-channel2 = c .before .before .before .before .before .before .before .before in
-    let at-that = at-bounded-channel2 .before .before .before .before .before .before .before in
-    let x = fits _ _ _ _ _ _ _ _ _ _ _ _ _ _ (still (at-that)) in let h = at-bounded-channel2 .bounded-channel2 .ensures .2 in (omega (arith, x .transfers), omega (arith, x .states))
+    let entry = at-bounded-channel2 .before .before .before .before .before .before .before in
+    let x = fits _ _ _ _ _ _ _ _ _ _ _ _ _ _ (still (entry)) in let h = at-bounded-channel2 .bounded-channel2 .ensures .2 in (omega (arith, x .transfers), omega (arith, x .states))
 
 nexts-after-requires : tie.Need-nexts-after-requires Inv-loop μ-loop
 nexts-after-requires c κs =
@@ -132,7 +134,6 @@ nexts-after-requires c κs =
 
 loop-less-2 : tie.Need-loop-less-2 Inv-loop μ-loop
 loop-less-2 c =
-   
     let at-loop-test = c .before .before .before .before .before .before .before .before .before .before .before .before .before .before .before .before .before .before .before .before .before .before .before .before .before .before .before .before .before in
     let at-loop = at-loop-test .before in
     left-falls _ _ _ _ _ _ _ _ _ _ _ _ _ _ (at-loop .loop .inv) (at-loop-test .loop-test .taken)
@@ -160,14 +161,12 @@ sub-span-of-2 c = let x = fits _ _ _ _ _ _ _ _ _ _ _ _ _ _ (still (c .before .be
 
 sub-closing : tie.Need-sub-closing Inv-loop μ-loop
 sub-closing c =
-   
     let at-loop-test = c .before .before .before .before .before .before .before .before .before .before .before .before .before .before .before .before .before .before .before .before .before .before .before .before in
     let at-loop = at-loop-test .before in
     left-fewer _ _ _ _ _ _ _ _ _ _ _ _ _ _ (at-loop .loop .inv) (at-loop-test .loop-test .taken)
 
 sub-closing-2 : tie.Need-sub-closing-2 Inv-loop μ-loop
 sub-closing-2 c =
-   
     let at-loop-test = c .before .before .before .before .before .before .before .before .before .before .before .before .before .before .before .before .before .before .before .before .before .before .before .before in
     let at-loop = at-loop-test .before in
     longs-fewer _ _ _ _ _ _ _ _ _ _ _ _ _ _ (at-loop .loop .inv) (at-loop-test .loop-test .taken)
@@ -182,8 +181,8 @@ closing-requires c κs =
 same-length-2 : tie.Need-same-length-2 Inv-loop μ-loop
 same-length-2 c =
     let at-that = c .before .before .before .before .before .before .before .before .before .before .before .before .before in
-    let at-that-2 = at-that .before .before .before .before .before .before .before .before .before .before .before .before .before .before .before .before in
-    let o = opened (at-that-2) in let g = still (at-that) in omega (arith, g .rolling .memory, o .2)
+    let entry = at-that .before .before .before .before .before .before .before .before .before .before .before .before .before .before .before .before in
+    let o = opened (entry) in let g = still (at-that) in omega (arith, g .rolling .memory, o .2)
 
 same-length-3 : tie.Need-same-length-3 Inv-loop μ-loop
 same-length-3 c = let g = still (c .before .before .before .before .before .before .before .before .before .before .before .before .before) in omega (arith, g .rolling .room)
@@ -195,7 +194,8 @@ returns-2 c =
     let at-that = at-if3 .before .before .before in
     let at-loop-test = at-that .before .before .before .before .before .before .before .before .before .before .before .before in
     let at-that-2 = at-loop-test .before .before .before .before in let entry = at-that-2 .before .before .before .before .before .before .before in
-    said-closed (entry .args .c) _ _ _ (entry .args .k) _ _ _ _ (c .closing .ensures) (accepted (at-that-2)) (looping-stood _ _ _ _ _ _ _ _ _ _ _ _ _ _ (still (at-that)) (at-loop-test .loop-test .taken) (at-if3 .if3 .left) _ (at-bounded-channel3 .bounded-channel3 .ensures .0) (at-bounded-channel3 .bounded-channel3 .ensures .1) (at-bounded-channel3 .bounded-channel3 .ensures .2) _ (rw (at-bit .bit .ensures, at-bit2 .bit2 .ensures) refl) _ (at-span-of .span-of .ensures) (at-if4 .if4 .taken) _)
+    round-stated _ _ _ _ _ _ _ _ (
+    said-closed (entry .args .c) _ _ _ (entry .args .k) _ _ _ _ (c .closing .ensures) (accepted (at-that-2)) (looping-stood _ _ _ _ _ _ _ _ _ _ _ _ _ _ (still (at-that)) (at-loop-test .loop-test .taken) (at-if3 .if3 .left) _ (at-bounded-channel3 .bounded-channel3 .ensures .0) (at-bounded-channel3 .bounded-channel3 .ensures .1) (at-bounded-channel3 .bounded-channel3 .ensures .2) _ (rw (at-bit .bit .ensures, at-bit2 .bit2 .ensures) refl) _ (at-span-of .span-of .ensures) (at-if4 .if4 .taken) _))
 
 turn-of-requires : tie.Need-turn-of-requires Inv-loop μ-loop
 turn-of-requires c κs =
@@ -213,14 +213,12 @@ element-set-from-there c = below (c .before .before .before .before .before .bef
 
 sub-closing-3 : tie.Need-sub-closing-3 Inv-loop μ-loop
 sub-closing-3 c =
-   
     let at-loop-test = c .before .before .before .before .before .before .before .before .before .before .before .before .before .before .before .before .before .before .before .before .before .before .before .before .before .before .before .before .before .before .before .before .before .before .before in
     let at-loop = at-loop-test .before in
     left-fewer _ _ _ _ _ _ _ _ _ _ _ _ _ _ (at-loop .loop .inv) (at-loop-test .loop-test .taken)
 
 sub-closing-4 : tie.Need-sub-closing-4 Inv-loop μ-loop
 sub-closing-4 c =
-   
     let at-loop-test = c .before .before .before .before .before .before .before .before .before .before .before .before .before .before .before .before .before .before .before .before .before .before .before .before .before .before .before .before .before .before .before .before .before .before .before in
     let at-loop = at-loop-test .before in
     longs-fewer _ _ _ _ _ _ _ _ _ _ _ _ _ _ (at-loop .loop .inv) (at-loop-test .loop-test .taken)
@@ -242,8 +240,8 @@ same-length-4 c =
     let at-bounded-channel3 = at-bit .before in let at-if3 = at-bounded-channel3 .before .before in let at-bits-of = at-if3 .before .before in
     let at-that = at-bits-of .before in
     let at-loop-test = at-that .before .before .before .before .before .before .before .before .before .before .before .before in
-    let at-that-2 = at-loop-test .before .before .before .before in
-    let o = opened (at-that-2) in let h = turn-memory _ _ _ _ _ _ _ _ _ _ _ _ _ _ (still (at-that)) (at-loop-test .loop-test .taken) (at-if3 .if3 .left) _ (at-bounded-channel3 .bounded-channel3 .ensures .0) (at-bounded-channel3 .bounded-channel3 .ensures .1) (at-bounded-channel3 .bounded-channel3 .ensures .2) _ (rw (at-bit .bit .ensures, at-bit2 .bit2 .ensures) refl) _ (at-span-of .span-of .ensures) (let nz = at-if4 .if4 .left in omega (arith, nz)) _ (at-bits-of .bits-of .ensures) _ (at-turn-of .turn-of .ensures .0) _ _ (at-turn-of .turn-of .ensures .1 .0) (at-turn-of .turn-of .ensures .1 .1) in omega (arith, h, o .2)
+    let entry = at-loop-test .before .before .before .before in
+    let o = opened (entry) in let h = turn-memory _ _ _ _ _ _ _ _ _ _ _ _ _ _ (still (at-that)) (at-loop-test .loop-test .taken) (at-if3 .if3 .left) _ (at-bounded-channel3 .bounded-channel3 .ensures .0) (at-bounded-channel3 .bounded-channel3 .ensures .1) (at-bounded-channel3 .bounded-channel3 .ensures .2) _ (rw (at-bit .bit .ensures, at-bit2 .bit2 .ensures) refl) _ (at-span-of .span-of .ensures) (let nz = at-if4 .if4 .left in omega (arith, nz)) _ (at-bits-of .bits-of .ensures) _ (at-turn-of .turn-of .ensures .0) _ _ (at-turn-of .turn-of .ensures .1 .0) (at-turn-of .turn-of .ensures .1 .1) in omega (arith, h, o .2)
 
 same-length-5 : tie.Need-same-length-5 Inv-loop μ-loop
 same-length-5 c =
@@ -263,18 +261,17 @@ returns-3 c =
     let at-that = at-bits-of .before in
     let at-loop-test = at-that .before .before .before .before .before .before .before .before .before .before .before .before in
     let at-that-2 = at-loop-test .before .before .before .before in let entry = at-that-2 .before .before .before .before .before .before .before in
-    said-closed (entry .args .c) _ _ _ (entry .args .k) _ _ _ _ (c .closing2 .ensures) (accepted (at-that-2)) (looping-halted _ _ _ _ _ _ _ _ _ _ _ _ _ _ (still (at-that)) (at-loop-test .loop-test .taken) (at-if3 .if3 .left) _ (at-bounded-channel3 .bounded-channel3 .ensures .0) (at-bounded-channel3 .bounded-channel3 .ensures .1) (at-bounded-channel3 .bounded-channel3 .ensures .2) _ (rw (at-bit .bit .ensures, at-bit2 .bit2 .ensures) refl) _ (at-span-of .span-of .ensures) (let nz = at-if4 .if4 .left in omega (arith, nz)) _ (at-bits-of .bits-of .ensures) _ (at-turn-of .turn-of .ensures .0) _ _ (at-turn-of .turn-of .ensures .1 .0) (at-turn-of .turn-of .ensures .1 .1) (sym (at-is-ended .is-ended .ensures) ∙ not-true _ (at-if5 .if5 .taken)) _)
+    round-stated _ _ _ _ _ _ _ _ (
+    said-closed (entry .args .c) _ _ _ (entry .args .k) _ _ _ _ (c .closing2 .ensures) (accepted (at-that-2)) (looping-halted _ _ _ _ _ _ _ _ _ _ _ _ _ _ (still (at-that)) (at-loop-test .loop-test .taken) (at-if3 .if3 .left) _ (at-bounded-channel3 .bounded-channel3 .ensures .0) (at-bounded-channel3 .bounded-channel3 .ensures .1) (at-bounded-channel3 .bounded-channel3 .ensures .2) _ (rw (at-bit .bit .ensures, at-bit2 .bit2 .ensures) refl) _ (at-span-of .span-of .ensures) (let nz = at-if4 .if4 .left in omega (arith, nz)) _ (at-bits-of .bits-of .ensures) _ (at-turn-of .turn-of .ensures .0) _ _ (at-turn-of .turn-of .ensures .1 .0) (at-turn-of .turn-of .ensures .1 .1) (sym (at-is-ended .is-ended .ensures) ∙ not-true _ (at-if5 .if5 .taken)) _))
 
 nexts-after-requires-2 : tie.Need-nexts-after-requires-2 Inv-loop μ-loop
 nexts-after-requires-2 c κs =
-   
     let at-bits-of = c .before .before .before .before .before .before .before .before .before .before .before .before .before .before .before .before .before .before .before .before .before .before in
     let at-loop = at-bits-of .before .before .before .before .before .before .before .before .before .before .before .before .before .before in
     rw (at-bits-of .bits-of .ensures) (at-loop .loop .inv .listed)
 
 loop-less-3 : tie.Need-loop-less-3 Inv-loop μ-loop
 loop-less-3 c =
-   
     let at-loop-test = c .before .before .before .before .before .before .before .before .before .before .before .before .before .before .before .before .before .before .before .before .before .before .before .before .before .before .before .before .before .before .before .before .before .before .before .before in
     let at-loop = at-loop-test .before in
     left-falls _ _ _ _ _ _ _ _ _ _ _ _ _ _ (at-loop .loop .inv) (at-loop-test .loop-test .taken)
@@ -299,7 +296,8 @@ returns-4 : tie.Need-returns-4 Inv-loop μ-loop
 returns-4 c =
     let at-loop-test = c .before in let at-loop = at-loop-test .before in let at-that = at-loop .before .before .before in
     let entry = at-that .before .before .before .before .before .before .before in
-    said-closed (entry .args .c) _ _ _ (entry .args .k) _ _ _ _ (c .closing3 .ensures) (accepted (at-that)) (looping-left _ _ _ _ _ _ _ _ _ _ _ _ _ _ (at-loop .loop .inv) (at-loop-test .loop-test .left))
+    round-stated _ _ _ _ _ _ _ _ (
+    said-closed (entry .args .c) _ _ _ (entry .args .k) _ _ _ _ (c .closing3 .ensures) (accepted (at-that)) (looping-left _ _ _ _ _ _ _ _ _ _ _ _ _ _ (at-loop .loop .inv) (at-loop-test .loop-test .left)))
 
 pub round-spec : {M : Type 1} → statement M
 round-spec = tie.close (tie.spec Inv-loop μ-loop (search needs) (search needs) (search needs) (search needs) returns (search needs) (search needs)

@@ -10,7 +10,7 @@ unfolding numbered
 returns c =
     let at-round-said = c .before .before .before in let at-round = at-round-said .before .before .before .before .before .before in
     let at-services = at-round .before .before .before .before in let at-number-of = at-services .before .before in
-    simp (sym (at-number-of .number-of .ensures) ∙ at-services .services .given .1) (rounded-so _ _ _ _ _ _ (at-round .round .ensures) (at-round-said .round-said .ensures))
+    simp (sym (at-number-of .number-of .ensures) ∙ at-services .services .given .1) (rounded-so _ _ _ _ _ _ (at-round .round .ensures .0) (at-round-said .round-said .ensures))
 
 returns-2 : tie.Need-returns-2
 unfolding numbered

@@ -42,7 +42,7 @@ returns-3 c =
     let size : length digits / 2 - 0 ≡ length (bytesIn digits) = omega (arith, bytes-length digits) in
     let front : take (length digits / 2 - 0) kept ≡ bytesIn digits = ap (λ (k : ℕ). take k kept) size ∙ stands-in-front _ _ _ _ (at-store .store .ensures) (omega (arith, bytes-length digits)) in
     simp (sym (at-is-bytes .is-bytes .ensures) ∙ not-false _ (at-if1 .if1 .left), le-leb _ _ (at-if2 .if2 .left))
-    (said-so (at-read .read .result .controller) _ _ (at-load-said .load-said .ensures) ∙ ap (λ (x : SheetRead). saying (page (s .out .now) (s .at)) (readSheet x)) (at-read .read .ensures ∙ ap (sheetReadOf One (s .c)) front))
+    (said-so (at-read .read .result .controller) _ _ (at-load-said .load-said .ensures) ∙ ap (λ (x : SheetRead). saying (page (s .out .now) (s .at)) (readSheet x)) (at-read .read .ensures .0 ∙ ap (sheetReadOf One (s .c)) front))
 
 pub load-spec : {M : Type 1} → statement M
 load-spec = tie.close (tie.spec (search needs) (search needs) (search needs) returns (search needs) (search needs) returns-2 (search needs)

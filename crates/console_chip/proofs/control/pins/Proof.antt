@@ -9,7 +9,7 @@ unfolding numbered
 returns c =
     let at-tell = c .before .before in let at-pins = at-tell .before .before in let at-said = at-pins .before .before in
     let at-number-of = at-said .before .before in
-    simp (sym (at-number-of .number-of .ensures) ∙ at-said .said .given .1) (rw (at-pins .pins .ensures) at (at-tell .tell .ensures))
+    simp (sym (at-number-of .number-of .ensures) ∙ at-said .said .given .1) (rw (at-pins .pins .ensures .0) at (at-tell .tell .ensures))
 
 returns-2 : tie.Need-returns-2
 unfolding numbered

@@ -9,7 +9,7 @@ unfolding numbered
 returns c =
     let at-tell = c .before .before in let at-read = at-tell .before .before in let at-place = at-read .before .before in
     let at-number-of = at-place .before .before in
-    simp (sym (at-number-of .number-of .ensures) ∙ at-place .place .given .1) (rw (at-read .read .ensures) at (at-tell .tell .ensures))
+    simp (sym (at-number-of .number-of .ensures) ∙ at-place .place .given .1) (rw (at-read .read .ensures .0) at (at-tell .tell .ensures))
 
 returns-2 : tie.Need-returns-2
 unfolding numbered

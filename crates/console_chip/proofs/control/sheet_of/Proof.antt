@@ -17,7 +17,7 @@ returns c =
     let spare = entry .args .spare .now in
     let all : n - 0 ≡ n = omega arith in
     let size : length (take (n - 0) spare) ≡ n = ap (λ (k : ℕ). length (take k spare)) all ∙ length-take-le n spare (entry .pre) in
-    at-sheet-said .sheet-said .ensures ∙ ap (put (page (entry .args .out .now) (entry .args .at))) (sheet-told _ _ _ _ _ _ _ size (at-copies .copies .ensures) (at-write .write .ensures))
+    at-sheet-said .sheet-said .ensures ∙ ap (put (page (entry .args .out .now) (entry .args .at))) (sheet-told _ _ _ _ _ _ _ size (at-copies .copies .ensures) (at-write .write .ensures .0))
 
 pub sheet-of-spec : {M : Type 1} → statement M
 sheet-of-spec = tie.close (tie.spec (search needs) (search needs) (search needs) (search needs) (search needs) (search needs) (search needs)

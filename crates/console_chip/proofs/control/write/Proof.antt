@@ -14,7 +14,7 @@ unfolding numbered
 returns c =
     let at-tell = c .before .before in let at-write = at-tell .before .before in let at-said = at-write .before .before in
     let at-place = at-said .before .before .before in let at-number-of2 = at-place .before .before in let at-number-of = at-number-of2 .before in
-    simp (sym (at-number-of .number-of .ensures) ∙ at-place .place .given .1, sym (at-number-of2 .number-of2 .ensures) ∙ at-said .said .given .1) (rw (at-write .write .ensures) at (at-tell .tell .ensures))
+    simp (sym (at-number-of .number-of .ensures) ∙ at-place .place .given .1, sym (at-number-of2 .number-of2 .ensures) ∙ at-said .said .given .1) (rw (at-write .write .ensures .0) at (at-tell .tell .ensures))
 
 returns-2 : tie.Need-returns-2
 unfolding numbered

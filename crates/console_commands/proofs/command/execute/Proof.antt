@@ -7,7 +7,6 @@ use Rattle.console_commands.proofs.command.execute.Tie as tie
 
 perform-requires : tie.Need-perform-requires
 perform-requires c κs =
-   
     let at-if1 = c .before .before .before .before .before .before .before .before .before .before .before .before .before .before .before .before .before in
     let at-stands = at-if1 .before in
     stands-all _ _ _ _ (sym (at-stands .stands .ensures) ∙ not-false _ (at-if1 .if1 .left))
