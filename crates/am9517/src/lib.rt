@@ -20,6 +20,7 @@ mod state;
 pub use serving::entitled_of;
 pub use serving::picked_from;
 
+#[repr(C)]
 pub struct Channel {
     pub base_address: u16,
     pub address: u16,
@@ -30,6 +31,7 @@ pub struct Channel {
 
 // Every field is a byte, so that a state that breaks a range can be given, and is refused by 1. First come eight fields that
 // ranges.rt asks as one number (the last four are what the end of a service clears); the other four stand as the loops of rounds are cheapest.
+#[repr(C)]
 pub struct Controller {
     pub channels: [Channel; 4],
     pub tc: u8,
