@@ -8,7 +8,5 @@ pub mod Fairness
 pub mod AccessLaws
 pub mod Ranges
 pub mod Calls
-pub mod Cases
 pub mod Sheets
 pub mod Steps
-pub mod Owner

@@ -38,11 +38,11 @@ use Rattle.am9517_service.specs.declared.Reason.the-variants.{Ended}
 use Rattle.am9517_sheet.specs.Bytes.{total}
 use Rattle.am9517_sheet.specs.Body.{bodyOf, stateOf}
 use Rattle.am9517_sheet.specs.Sheet.{answerOf}
 use Rattle.demands.specs.Lists.{All, none, also}
 use Rattle.demands.specs.Operations.{Grant, Run, Round, SheetWriting, SheetReading, next, afterAll, said}
 use Rattle.demands.specs.Grants.{Granted, told, grants, channels}
 use Rattle.demands.specs.Fairness.{Contends}
-use Rattle.demands.specs.Cases.{Holds, services, setUp, idleWith, ch, proved, whole, limits, WorkedCases, Tight, p5, p6}
+use Rattle.owner.specs.Cases.{Holds, services, setUp, idleWith, ch, proved, whole, limits, WorkedCases, Tight, p5, p6}
 use Rattle.words.proofs.ChoiceLaws.{when-hit, never}
 use Rattle.am9517_service.proofs.AnswerLaws.{run-accepted}
 use Rattle.am9517_service.proofs.LegRunLaws.{run-ends}

@@ -1,13 +1,13 @@
 -- What the owner asked for, as one statement. Its one theorem is `owner`.
 use Rattle.demands.specs.Refusals.{Demand1}
 use Rattle.demands.specs.Calls.{Demand1OfCalls, SheetsStayGood}
 use Rattle.demands.specs.Outcomes.{OneOutcome, OneOutcomeWhereAsked}
 use Rattle.demands.specs.Ranges.{RangesKept}
 use Rattle.demands.specs.Steps.{StepsOverTheWidth}
 use Rattle.demands.specs.Sheets.{RoundTrips}
 use Rattle.demands.specs.Rounds.{RoundIsCalls, RoundStops, SpelledLeads}
 use Rattle.demands.specs.Fairness.{Demand3, Demand3Reported, LowestKept}
-use Rattle.demands.specs.Cases.{WorkedCases, Tight}
+use Rattle.owner.specs.Cases.{WorkedCases, Tight}
 
 pub record Owner : Type 0 where
   -- Demand 1: a refusal says its number, exactly when its condition is the first that holds, and changes nothing; of the C calls, too.

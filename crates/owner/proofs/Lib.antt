@@ -1,0 +1,3 @@
+-- The cases computed, and the one theorem.
+pub mod Cases
+pub mod Owner

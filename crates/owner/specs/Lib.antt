@@ -1,0 +1,3 @@
+-- The owner's worked cases, and all that he asked for.
+pub mod Cases
+pub mod Owner
