@@ -8,6 +8,7 @@ use crate::numbers::run_told_of;
 use crate::numbers::sheet_number;
 use crate::numbers::told_of;
 use crate::numbers::wide;
+use am9517::Answer;
 use am9517::Controller;
 use am9517::Outcome;
 use am9517_service::round;
@@ -44,14 +45,25 @@ pub struct RoundDone {
     pub said: RoundTold,
 }
 
+// An arm for each answer: so the chip is copied once less than where the number comes first.
 fn done_of(outcome: Outcome) -> Done
     ensures { λ r. ⌜ r ≡ record { controller = outcome .controller; refusal = refusalNumber (outcome .answer) } ⌝ }
 {
     let controller = outcome.controller;
     let answer = outcome.answer;
-    Done {
-        controller,
-        refusal: told_of(answer).refusal,
+    match answer {
+        Answer::Done => Done {
+            controller,
+            refusal: 0,
+        },
+        Answer::Value(v) => Done {
+            controller,
+            refusal: 0,
+        },
+        Answer::Refused(n) => Done {
+            controller,
+            refusal: wide(n),
+        },
     }
 }
 
