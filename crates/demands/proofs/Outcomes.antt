@@ -68,9 +68,6 @@ one-outcome =
       round = record { free = λ κs a. tt; single = λ κs a x y l l' p q. (ap (λ (g : RoundGiven). g .rounded) (same (p .0) (q .0)), ap (λ (g : RoundGiven). (tt, (g .memory, (tt, (g .room, (tt, tt)))))) (same (p .0) (q .0))) };
       sheetWrite = record { free = λ κs a. tt; single = λ κs a x y l l' p q. (ap (λ (s : Stored). s .answer) (same (p .0) (q .0)), ap (λ (s : Stored). (tt, (s .bytes, tt))) (same (p .0) (q .0))) };
       sheetRead = record { free = λ κs a. tt; single = λ κs a x y l l' p q. (same (p .0) (q .0), refl) };
-      told = record { free = λ κs a. tt; single = λ κs a x y l l' p q. (same p q, refl) };
-      sealRefusal = record { free = λ κs a. tt; single = λ κs a x y l l' p q. (same p q, refl) };
-      seal = record { free = λ κs a. tt; single = λ κs a x y l l' p q. (refl, ap (λ (bs : List ℕ). (bs, (tt, tt))) (same p q)) };
       bodyOf = record { free = λ κs a. tt; single = λ κs a x y l l' p q. (same p q, refl) };
       stateOf = record { free = λ κs a. tt; single = λ κs a x y l l' p q. (same p q, refl) };
       cVersion = record { free = λ κs a. tt; single = λ κs a x y l l' p q. (same p q, refl) };
