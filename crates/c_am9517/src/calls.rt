@@ -11,8 +11,6 @@ use crate::numbers::wide;
 use am9517::Answer;
 use am9517::Controller;
 use am9517::Outcome;
-use am9517_service::round;
-use am9517_service::run;
 ghost use mathlib.Core.Path.{_≡_};
 ghost use Rattle.am9517.specs.Answers.{refusalNumber, writeOf, readOf, pinsOf, resetOf, grantOf};
 ghost use Rattle.am9517.specs.Serving.{entitled, setOf, status};
@@ -138,7 +136,7 @@ pub(crate) fn status(c: Controller) -> Told
     shown(c, wide(c.tc) + 16 * wide(requesting))
 }
 
-pub(crate) fn run_on(
+pub(crate) fn run(
     c: Controller,
     memory: &mut [u8],
     device: &[u8],
@@ -148,13 +146,13 @@ pub(crate) fn run_on(
 ) -> RunDone
     ensures { λ r. ⌜ runLeft (r .controller) (r .said) (now (memory .exit)) (now (room .exit)) ≡ runCallOf (ranOf c (now (memory .entry)) (now (device .entry)) (now (room .entry)) limit «eop_at») ⌝ }
 {
-    let ran = run(c, memory, device, room, limit, eop_at);
+    let ran = am9517_service::run(c, memory, device, room, limit, eop_at);
     let controller = ran.controller;
     let said = run_told_of(ran);
     RunDone { controller, said }
 }
 
-pub(crate) fn round_on(
+pub(crate) fn round(
     c: Controller,
     memory: &mut [u8],
     device: &[u8],
@@ -163,7 +161,7 @@ pub(crate) fn round_on(
 ) -> RoundDone
     ensures { λ r. ⌜ roundLeft (r .controller) (r .said) (now (memory .exit)) (now (room .exit)) ≡ roundCallOf (roundedOf c (now (memory .entry)) (now (device .entry)) (now (room .entry)) k) ⌝ }
 {
-    let rounded = round(c, memory, device, room, k);
+    let rounded = am9517_service::round(c, memory, device, room, k);
     let controller = rounded.controller;
     let said = round_told_of(rounded);
     RoundDone { controller, said }

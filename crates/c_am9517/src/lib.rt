@@ -146,7 +146,7 @@ pub extern "C" fn am9517_run(
 ) -> RunTold
     ensures { λ r. ⌜ runLeft (now (chip .exit)) r (now (memory .exit)) (now (room .exit)) ≡ runCallOf (ranOf (now (chip .entry)) (now (memory .entry)) (now (device .entry)) (now (room .entry)) limit «eop_at») ⌝ }
 {
-    let done = calls::run_on(*chip, memory, device, room, limit, eop_at);
+    let done = calls::run(*chip, memory, device, room, limit, eop_at);
     *chip = done.controller;
     done.said
 }
@@ -162,7 +162,7 @@ pub extern "C" fn am9517_round(
 ) -> RoundTold
     ensures { λ r. ⌜ roundLeft (now (chip .exit)) r (now (memory .exit)) (now (room .exit)) ≡ roundCallOf (roundedOf (now (chip .entry)) (now (memory .entry)) (now (device .entry)) (now (room .entry)) k) ⌝ }
 {
-    let done = calls::round_on(*chip, memory, device, room, k);
+    let done = calls::round(*chip, memory, device, room, k);
     *chip = done.controller;
     done.said
 }

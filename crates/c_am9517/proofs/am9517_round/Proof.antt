@@ -50,9 +50,9 @@ use Rattle.c_am9517.proofs.calls.RoundDone as S
 use Rattle.c_am9517.proofs.calls.RoundDone.Laws as S′
 use Rattle.c_am9517.proofs.RoundTold as An
 use Rattle.c_am9517.proofs.RoundTold.Laws as An′
-use Rattle.c_am9517.proofs.calls.round_on as callee
-use Rattle.c_am9517.proofs.calls.round_on.Symbol as symbol
-use Rattle.c_am9517.proofs.calls.round_on.Met as callee-thm
+use Rattle.c_am9517.proofs.calls.round as callee
+use Rattle.c_am9517.proofs.calls.round.Symbol as symbol
+use Rattle.c_am9517.proofs.calls.round.Met as callee-thm
 use Rattle.c_am9517.proofs.am9517_round.Key as key
 use Rattle.c_am9517.proofs.am9517_round as f
 use Rattle.c_am9517.proofs.am9517_round.Statement as stated
@@ -256,4 +256,4 @@ am9517-round-spec 𝓤 H 𝓜 𝓖 𝓡 =
     entered 𝓤 H (tripleOf 𝓤 H (𝓖 .A) f.signature (f.spec 𝓤 H (𝓖 .A) (𝓜 .mem) (𝓡 .run)))
     (tables 𝓤 H 𝓜 𝓡 code.env .C) (tables 𝓤 H 𝓜 𝓡 code.env .Λ) key.name code.function (code.unfolded 𝓤 H 𝓜 𝓡)
     (meets 𝓤 H (𝓖 .A) (givenOf 𝓤 H 𝓜 𝓖) (𝓜 .mem) (𝓡 .run) (tablesOf 𝓤 H 𝓜 (tables 𝓤 H 𝓜 𝓡 code.env))
-    (cited 𝓤 H (Callee 𝓤 H (𝓖 .A) (𝓜 .mem) (𝓡 .run)) 𝓜 𝓡 code.env symbol.name symbol.routine code.calls-c-am9517·calls·round-on (callee-thm.met 𝓤 H 𝓜 𝓖 𝓡)))
+    (cited 𝓤 H (Callee 𝓤 H (𝓖 .A) (𝓜 .mem) (𝓡 .run)) 𝓜 𝓡 code.env symbol.name symbol.routine code.calls-c-am9517·calls·round (callee-thm.met 𝓤 H 𝓜 𝓖 𝓡)))
