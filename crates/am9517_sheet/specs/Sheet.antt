@@ -2,7 +2,7 @@
 use Prim.Native.Nat.{ℕ, _-_}
 use mathlib.Core.Bool.{not}
 use mathlib.Core.List.{List, [], _∷_, _++_}
-use lib.Dec.{eqb, ltb, leb}
+use lib.Dec.{eqb, ltb}
 use lib.ListN.{length}
 use Rattle.words.specs.Choice.{when}
 use Rattle.words.specs.Grounds.{Ground, _if_}
@@ -53,22 +53,13 @@ sheetWriteOf form s out =
     stored (answerOf no) (when (eqb no 0) (placed out (length out - sheetSize form) (sheetOf form s)) out)
 
 -- "sheet reading 9 to 14 in order", of which 10 to 14 are the "sheet faults, below": those of its bytes, and "14 range", a state out of its ranges
-abbrev pub sealGrounds : Form → List ℕ → List (Ground ℕ)
-sealGrounds form bytes = 9 if ltb (length bytes) (sheetSize form) ∷ trailerGrounds form (sheetIn form bytes)
-
 abbrev pub sheetReadGrounds : Form → List ℕ → List (Ground ℕ)
-sheetReadGrounds form bytes = sealGrounds form bytes ++ (14 if not (valid (stateOf form (sheetIn form bytes))) ∷ [])
+sheetReadGrounds form bytes =
+    9 if ltb (length bytes) (sheetSize form)
+    ∷ (trailerGrounds form (sheetIn form bytes) ++ (14 if not (valid (stateOf form (sheetIn form bytes))) ∷ []))
 
 -- the state that the sheet tells; where it is refused, the state s as it was
 abbrev pub sheetReadOf : Form → Controller → List ℕ → SheetRead
 sheetReadOf form s bytes =
     let no = refusal (sheetReadGrounds form bytes) in
     record { controller = when (eqb no 0) (stateOf form (sheetIn form bytes)) s; answer = answerOf no }
-
--- For a host that keeps its state as a sheet: what it tells, sealed and in its ranges or not, of zeros where there is none;
--- and the slice with the sheet of a body at its end, where it has room.
-abbrev pub toldIn : Form → List ℕ → Controller
-toldIn form bytes = stateOf form (when (ltb (length bytes) (sheetSize form)) [] (sheetIn form bytes))
-
-abbrev pub sealedIn : Form → List ℕ → List ℕ → List ℕ
-sealedIn form body bytes = when (leb (sheetSize form) (length bytes)) (placed bytes (length bytes - sheetSize form) (withTrailer form body)) bytes

@@ -2,10 +2,8 @@
 ghost use mathlib.Core.Path.{_≡_};
 ghost use Rattle.am9517_sheet.specs.Form.{number, channelsAt, bodySize, sheetSize};
 
-// Of form 1: the bytes of a body, and with its trailer.
+// Of form 1: the bytes of a body.
 pub const BODY: usize = 48;
-
-pub const SHEET: usize = BODY + 8;
 
 pub enum Form {
     One,

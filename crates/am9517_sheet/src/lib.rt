@@ -1,7 +1,6 @@
 // Stored sheets, at the end of a lent slice.
 use crate::body::state_in;
 use crate::body::store_body;
-use crate::bytes::store;
 use crate::forms::Form;
 use crate::forms::sheet_size;
 use crate::trailer::store_trailer;
@@ -12,7 +11,7 @@ ghost use mathlib.Core.Path.{_≡_};
 ghost use lib.ListN.{length};
 ghost use Rattle.am9517_sheet.specs.declared.forms.Form.the-variants.{One};
 ghost use Rattle.am9517.specs.Refusals.{refusal};
-ghost use Rattle.am9517_sheet.specs.Sheet.{sheetRefusalNumber, stored, sheetWriteGrounds, sheetWriteOf, sealGrounds, sheetReadGrounds, sheetReadOf, toldIn, sealedIn};
+ghost use Rattle.am9517_sheet.specs.Sheet.{sheetRefusalNumber, stored, sheetWriteGrounds, sheetWriteOf, sheetReadGrounds, sheetReadOf};
 
 mod body;
 mod bytes;
@@ -22,7 +21,6 @@ mod trailer;
 pub use body::body_of;
 pub use body::state_of;
 pub use forms::BODY;
-pub use forms::SHEET;
 
 // What writing or reading a sheet says: done, or the number of its refusal.
 pub enum SheetAnswer {
@@ -92,40 +90,4 @@ pub fn read(c: Controller, bytes: &[u8]) -> SheetRead
     ensures { λ r. ⌜ (r ≡ sheetReadOf One c (now (bytes .entry))) × (sheetRefusalNumber (r .answer) ≡ refusal (sheetReadGrounds One (now (bytes .entry)))) ⌝ }
 {
     read_in(Form::One, c, bytes)
-}
-
-// The refusal of the sheet of form 1 without its ranges, 9 to 13; 0 for none.
-pub fn seal_refusal(bytes: &[u8]) -> u8
-    ensures { λ r. ⌜ r ≡ refusal (sealGrounds One (now (bytes .entry))) ⌝ }
-{
-    let n = bytes.len();
-    if n < SHEET {
-        return 9;
-    }
-    let start = n - SHEET;
-    trailer_refusal(Form::One, &bytes[start..], 0)
-}
-
-// The state that the sheet of form 1 tells, sealed and in its ranges or not; of zeros where there is none.
-pub fn told(bytes: &[u8]) -> Controller
-    ensures { λ r. ⌜ r ≡ toldIn One (now (bytes .entry)) ⌝ }
-{
-    let n = bytes.len();
-    if n < SHEET {
-        return state_of([0; BODY]);
-    }
-    let start = n - SHEET;
-    state_in(Form::One, &bytes[start..])
-}
-
-// The sheet of form 1 with this body is stored at the end of the slice, if it has room.
-pub fn seal(bytes: &mut [u8], body: [u8; BODY])
-    ensures { λ _. ⌜ now (bytes .exit) ≡ sealedIn One body (now (bytes .entry)) ⌝ }
-{
-    let n = bytes.len();
-    if SHEET <= n {
-        let start = n - SHEET;
-        store(bytes, start, &body);
-        store_trailer(Form::One, bytes, start);
-    }
 }

@@ -1,4 +1,3 @@
--- Laws of bytes in place, of the sheet's refusal, of ranges that an operation asks, of what is shown, and of calls.
-pub mod RefusalLaws
+-- Laws of what is shown, and of calls.
 pub mod DisplayLaws
 pub mod CallLaws

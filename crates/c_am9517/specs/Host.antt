@@ -1,104 +1,84 @@
--- What each call gives and leaves, for all bytes. The state is a stored sheet: it is opened, the operation is done, and the next
--- state's sheet is stored in its place. A refusal, of the sheet or of the operation, changes no byte.
-use Prim.Native.Nat.{ℕ, _-_}
+-- What each call gives, for all inputs: the chip that it leaves, and what it says. The chip is the controller's state, which the host owns
+-- and lends to each call. A refusal leaves it as it was.
+use Prim.Native.Nat.{ℕ}
+use mathlib.Core.Bool.{not}
 use mathlib.Core.List.{List, [], _∷_}
 use lib.Dec.{eqb}
-use lib.ListN.{length}
 use Rattle.words.specs.Choice.{when}
-use Rattle.am9517.specs.State.{fresh}
-use Rattle.am9517.specs.Answers.{refusalNumber}
+use Rattle.words.specs.Grounds.{Ground, _if_}
+use Rattle.am9517.specs.Ranges.{valid}
+use Rattle.am9517.specs.Refusals.{refusal}
 use Rattle.am9517.specs.declared.Controller.{Controller}
 use Rattle.am9517.specs.declared.Outcome.{Outcome}
-use Rattle.am9517_service.specs.Answers.{Given, runRefusalNumber, ranOf}
-use Rattle.am9517_service.specs.RoundAnswers.{RoundGiven, roundRefusalNumber, roundedOf}
-use Rattle.am9517_sheet.specs.declared.forms.Form.the-variants.{One}
-use Rattle.am9517_sheet.specs.Bytes.{placed}
-use Rattle.am9517_sheet.specs.Form.{sheetSize}
-use Rattle.am9517_sheet.specs.Sheet.{Stored, sheetRefusalNumber, sheetOf, sheetWriteOf, sheetReadOf}
+use Rattle.am9517_service.specs.Answers.{Given}
+use Rattle.am9517_service.specs.RoundAnswers.{RoundGiven}
+use Rattle.am9517_sheet.specs.declared.SheetRead.{SheetRead}
+use Rattle.am9517_sheet.specs.Sheet.{Stored, sheetRefusalNumber}
 use Rattle.c_am9517.specs.declared.Told.{Told}
 use Rattle.c_am9517.specs.declared.RunTold.{RunTold}
 use Rattle.c_am9517.specs.declared.RoundTold.{RoundTold}
 use Rattle.c_am9517.specs.Numbers.{told, toldOf, runToldOf, roundToldOf}
 
--- the refusal of the sheet in these bytes, 9 to 14; 0 where it is good
-abbrev pub sheetRefusal : List ℕ → ℕ
-sheetRefusal state = sheetRefusalNumber (sheetReadOf One fresh state .answer)
+-- major * 10000 + minor * 100 + patch
+abbrev pub version : ℕ
+version = 20000
 
--- the sheet is opened: `go` with its state, or `refused` with its number
-module _ {A : Type 0} where
-  unfoldable pub openedOf : List ℕ → (ℕ → A) → (Controller → A) → A
-  openedOf state refused go = when (eqb (sheetRefusal state) 0) (go (sheetReadOf One fresh state .controller)) (refused (sheetRefusal state))
+-- a look is refused by 1, "the state breaks a range of the sheet section", and shows nothing then
+abbrev pub lookGrounds : Controller → List (Ground ℕ)
+lookGrounds s = 1 if not (valid s) ∷ []
 
--- the state's bytes after an operation that said n (0: no refusal) and gave s
-unfoldable pub keptOf : ℕ → Controller → List ℕ → List ℕ
-keptOf n s state = when (eqb n 0) (placed state (length state - sheetSize One) (sheetOf One s)) state
+abbrev pub lookOf : Controller → ℕ → Told
+lookOf s shown = let n = refusal (lookGrounds s) in told n (when (eqb n 0) shown 0)
 
--- What a call says, and the bytes that it was lent to change.
+-- The chip after a call, and what the call says.
 pub record Left : Type 0 where
+  pub chip : Controller
   pub said : Told
-  pub state : List ℕ
 
-abbrev pub left : Told → List ℕ → Left
-left t state = record { said = t; state = state }
+abbrev pub left : Controller → Told → Left
+left s t = record { chip = s; said = t }
 
--- "Each returns its number only, and state .. stay."
-abbrev pub refusedOf : List ℕ → ℕ → Left
-refusedOf state n = left (told n 0) state
+-- an operation of the controller
+abbrev pub callOf : Outcome → Left
+callOf o = left (o .controller) (toldOf (o .answer))
 
-abbrev pub doneOf : List ℕ → Outcome → Left
-doneOf state o = left (toldOf (o .answer)) (keptOf (refusalNumber (o .answer)) (o .controller) state)
+-- a sheet read into the chip
+abbrev pub loadOf : SheetRead → Left
+loadOf x = left (x .controller) (told (sheetRefusalNumber (x .answer)) 0)
 
--- a call of an operation on the state
-abbrev pub callOf : (Controller → Outcome) → List ℕ → Left
-callOf operation state = openedOf state (refusedOf state) (λ s. doneOf state (operation s))
+-- A sheet written: the number said, and the lent bytes after it.
+pub record Saved : Type 0 where
+  pub refusal : ℕ
+  pub sheet : List ℕ
 
--- a look at the state
-abbrev pub lookOf : (Controller → Told) → List ℕ → Told
-lookOf shown state = openedOf state (λ n. told n 0) shown
+abbrev pub saved : ℕ → List ℕ → Saved
+saved n bs = record { refusal = n; sheet = bs }
 
-abbrev pub storedOf : Stored → Left
-storedOf s = left (told (sheetRefusalNumber (s .answer)) 0) (s .bytes)
+abbrev pub saveOf : Stored → Saved
+saveOf s = saved (sheetRefusalNumber (s .answer)) (s .bytes)
 
--- the sheet at the end of one slice, stored at the end of another
-abbrev pub copyOf : List ℕ → List ℕ → Left
-copyOf to from = openedOf from (refusedOf to) (λ s. storedOf (sheetWriteOf One s to))
-
+-- A run, and the memory and room that it leaves.
 pub record RunLeft : Type 0 where
+  pub chip : Controller
   pub said : RunTold
-  pub state : List ℕ
   pub memory : List ℕ
   pub room : List ℕ
 
-abbrev pub runLeft : RunTold → List ℕ → List ℕ → List ℕ → RunLeft
-runLeft t state m r = record { said = t; state = state; memory = m; room = r }
+abbrev pub runLeft : Controller → RunTold → List ℕ → List ℕ → RunLeft
+runLeft s t m r = record { chip = s; said = t; memory = m; room = r }
 
-abbrev pub runRefused : ℕ → RunTold
-runRefused n = record { refusal = n; reason = 0; transfers = 0; used = 0; written = 0; states = 0 }
+abbrev pub runCallOf : Given → RunLeft
+runCallOf g = runLeft (g .ran .controller) (runToldOf (g .ran)) (g .memory) (g .room)
 
-abbrev pub runDoneOf : List ℕ → Given → RunLeft
-runDoneOf state g =
-    runLeft (runToldOf (g .ran)) (keptOf (runRefusalNumber (g .ran .answer)) (g .ran .controller) state) (g .memory) (g .room)
-
-abbrev pub runCallOf : List ℕ → List ℕ → List ℕ → List ℕ → ℕ → ℕ → RunLeft
-runCallOf state m d r limit eop =
-    openedOf state (λ n. runLeft (runRefused n) state m r) (λ s. runDoneOf state (ranOf s m d r limit eop))
-
+-- A round likewise.
 pub record RoundLeft : Type 0 where
+  pub chip : Controller
   pub said : RoundTold
-  pub state : List ℕ
   pub memory : List ℕ
   pub room : List ℕ
 
-abbrev pub roundLeft : RoundTold → List ℕ → List ℕ → List ℕ → RoundLeft
-roundLeft t state m r = record { said = t; state = state; memory = m; room = r }
+abbrev pub roundLeft : Controller → RoundTold → List ℕ → List ℕ → RoundLeft
+roundLeft s t m r = record { chip = s; said = t; memory = m; room = r }
 
-abbrev pub roundRefused : ℕ → RoundTold
-roundRefused n = record { refusal = n; reason = 0; services = 0 ∷ 0 ∷ 0 ∷ 0 ∷ []; transfers = 0; used = 0; written = 0; states = 0 }
-
-abbrev pub roundDoneOf : List ℕ → RoundGiven → RoundLeft
-roundDoneOf state g =
-    roundLeft (roundToldOf (g .rounded)) (keptOf (roundRefusalNumber (g .rounded .answer)) (g .rounded .controller) state) (g .memory) (g .room)
-
-abbrev pub roundCallOf : List ℕ → List ℕ → List ℕ → List ℕ → ℕ → RoundLeft
-roundCallOf state m d r k =
-    openedOf state (λ n. roundLeft (roundRefused n) state m r) (λ s. roundDoneOf state (roundedOf s m d r k))
+abbrev pub roundCallOf : RoundGiven → RoundLeft
+roundCallOf g = roundLeft (g .rounded .controller) (roundToldOf (g .rounded)) (g .memory) (g .room)

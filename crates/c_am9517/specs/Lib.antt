@@ -1,4 +1,3 @@
--- The controller as C programs see it: numbers for answers, and the state as a stored sheet that the host owns.
+-- The controller as C programs see it: numbers for answers, and the chip that the host owns and lends.
 pub mod Numbers
 pub mod Host
-pub mod Needs

@@ -2,11 +2,15 @@
 use mathlib.Core.Path.{_≡_, refl, sym, ap, _∙_}
 use Prim.Native.Nat.{ℕ}
 use mathlib.Core.List.{List}
-use Rattle.am9517_service.specs.Answers.{Given}
-use Rattle.am9517_service.specs.RoundAnswers.{RoundGiven}
-use Rattle.am9517_sheet.specs.Sheet.{Stored}
-use Rattle.c_am9517.specs.Host.{Left, RunLeft, RoundLeft}
-use Rattle.demands.specs.Outcomes.{OneOutcome, OneOutcomeWhereAsked}
+use Rattle.am9517.specs.Serving.{entitled, setOf, status}
+use Rattle.am9517.specs.Answers.{writeOf, readOf, pinsOf, resetOf, grantOf}
+use Rattle.am9517_service.specs.Answers.{Given, ranOf}
+use Rattle.am9517_service.specs.RoundAnswers.{RoundGiven, roundedOf}
+use Rattle.am9517_sheet.specs.declared.forms.Form.the-variants.{One}
+use Rattle.am9517_sheet.specs.Sheet.{Stored, sheetWriteOf, sheetReadOf}
+use Rattle.c_am9517.specs.Numbers.{told}
+use Rattle.c_am9517.specs.Host.{lookOf, Left, left, callOf, loadOf, Saved, saved, saveOf, RunLeft, runLeft, runCallOf, RoundLeft, roundLeft, roundCallOf}
+use Rattle.demands.specs.Outcomes.{OneOutcome, OneOutcomeOfCalls, OneOutcomeWhereAsked}
 
 -- two values that both equal a third
 same : {A : Type 0} {x y v : A} → x ≡ v → y ≡ v → x ≡ y
@@ -64,23 +68,87 @@ one-outcome =
       round = record { free = λ κs a. tt; single = λ κs a x y l l' p q. (ap (λ (g : RoundGiven). g .rounded) (same (p .0) (q .0)), ap (λ (g : RoundGiven). (tt, (g .memory, (tt, (g .room, (tt, tt)))))) (same (p .0) (q .0))) };
       sheetWrite = record { free = λ κs a. tt; single = λ κs a x y l l' p q. (ap (λ (s : Stored). s .answer) (same (p .0) (q .0)), ap (λ (s : Stored). (tt, (s .bytes, tt))) (same (p .0) (q .0))) };
       sheetRead = record { free = λ κs a. tt; single = λ κs a x y l l' p q. (same (p .0) (q .0), refl) };
-      told = record { free = λ κs a. tt; single = λ κs a x y l l' p q. (same p q, refl) };
-      sealRefusal = record { free = λ κs a. tt; single = λ κs a x y l l' p q. (same p q, refl) };
-      seal = record { free = λ κs a. tt; single = λ κs a x y l l' p q. (refl, ap (λ (bs : List ℕ). (bs, (tt, tt))) (same p q)) };
       bodyOf = record { free = λ κs a. tt; single = λ κs a x y l l' p q. (same p q, refl) };
       stateOf = record { free = λ κs a. tt; single = λ κs a x y l l' p q. (same p q, refl) };
-      cFresh = record { free = λ κs a. tt; single = λ κs a x y l l' p q. (ap (λ (g : Left). g .said .refusal) (same p q), ap (λ (g : Left). (g .state, tt)) (same p q)) };
-      cCheck = record { free = λ κs a. tt; single = λ κs a x y l l' p q. (same p q, refl) };
-      cCopy = record { free = λ κs a. tt; single = λ κs a x y l l' p q. (ap (λ (g : Left). g .said .refusal) (same p q), ap (λ (g : Left). (g .state, (tt, tt))) (same p q)) };
-      cWrite = record { free = λ κs a. tt; single = λ κs a x y l l' p q. (ap (λ (g : Left). g .said .refusal) (same p q), ap (λ (g : Left). (g .state, (tt, (tt, tt)))) (same p q)) };
-      cRead = record { free = λ κs a. tt; single = λ κs a x y l l' p q. (ap (λ (g : Left). g .said) (same p q), ap (λ (g : Left). (g .state, (tt, tt))) (same p q)) };
-      cPins = record { free = λ κs a. tt; single = λ κs a x y l l' p q. (ap (λ (g : Left). g .said .refusal) (same p q), ap (λ (g : Left). (g .state, (tt, tt))) (same p q)) };
-      cReset = record { free = λ κs a. tt; single = λ κs a x y l l' p q. (ap (λ (g : Left). g .said .refusal) (same p q), ap (λ (g : Left). (g .state, tt)) (same p q)) };
-      cGrant = record { free = λ κs a. tt; single = λ κs a x y l l' p q. (ap (λ (g : Left). g .said) (same p q), ap (λ (g : Left). (g .state, tt)) (same p q)) };
-      cEntitled = record { free = λ κs a. tt; single = λ κs a x y l l' p q. (same p q, refl) };
-      cStatus = record { free = λ κs a. tt; single = λ κs a x y l l' p q. (same p q, refl) };
-      cRun = record { free = λ κs a. tt; single = λ κs a x y l l' p q. (ap (λ (g : RunLeft). g .said) (same p q), ap (λ (g : RunLeft). (g .state, (g .memory, (tt, (g .room, (tt, (tt, tt))))))) (same p q)) };
-      cRound = record { free = λ κs a. tt; single = λ κs a x y l l' p q. (ap (λ (g : RoundLeft). g .said) (same p q), ap (λ (g : RoundLeft). (g .state, (g .memory, (tt, (g .room, (tt, tt)))))) (same p q)) };
+      cVersion = record { free = λ κs a. tt; single = λ κs a x y l l' p q. (same p q, refl) };
+      cFresh = record { free = λ κs a. tt; single = λ κs a x y l l' p q. (same p q, refl) };
+    }
+
+pub one-outcome-of-calls : OneOutcomeOfCalls
+one-outcome-of-calls =
+    record {
+      cCheck = record {
+        promise = λ κs a r e. r ≡ lookOf (a .0 .now) 0 .refusal;
+        free = λ M 𝓤 H A mem run κs a g. refl;
+        says = λ M 𝓤 H A mem run κs a g r e. refl;
+        single = λ κs a x y l l' p q. (same p q, refl);
+      };
+      cWrite = record {
+        promise = λ κs a r e. left (e .0 .now) (told r 0) ≡ callOf (writeOf (a .0 .now) (a .1 .0) (a .1 .1 .0));
+        free = λ M 𝓤 H A mem run κs a g. refl;
+        says = λ M 𝓤 H A mem run κs a g r e. refl;
+        single = λ κs a x y l l' p q. (ap (λ (g : Left). g .said .refusal) (same p q), ap (λ (g : Left). (g .chip, (tt, (tt, tt)))) (same p q));
+      };
+      cRead = record {
+        promise = λ κs a r e. left (e .0 .now) r ≡ callOf (readOf (a .0 .now) (a .1 .0));
+        free = λ M 𝓤 H A mem run κs a g. refl;
+        says = λ M 𝓤 H A mem run κs a g r e. refl;
+        single = λ κs a x y l l' p q. (ap (λ (g : Left). g .said) (same p q), ap (λ (g : Left). (g .chip, (tt, tt))) (same p q));
+      };
+      cPins = record {
+        promise = λ κs a r e. left (e .0 .now) (told r 0) ≡ callOf (pinsOf (a .0 .now) (a .1 .0));
+        free = λ M 𝓤 H A mem run κs a g. refl;
+        says = λ M 𝓤 H A mem run κs a g r e. refl;
+        single = λ κs a x y l l' p q. (ap (λ (g : Left). g .said .refusal) (same p q), ap (λ (g : Left). (g .chip, (tt, tt))) (same p q));
+      };
+      cReset = record {
+        promise = λ κs a r e. left (e .0 .now) (told r 0) ≡ callOf (resetOf (a .0 .now));
+        free = λ M 𝓤 H A mem run κs a g. refl;
+        says = λ M 𝓤 H A mem run κs a g r e. refl;
+        single = λ κs a x y l l' p q. (ap (λ (g : Left). g .said .refusal) (same p q), ap (λ (g : Left). (g .chip, tt)) (same p q));
+      };
+      cGrant = record {
+        promise = λ κs a r e. left (e .0 .now) r ≡ callOf (grantOf (a .0 .now));
+        free = λ M 𝓤 H A mem run κs a g. refl;
+        says = λ M 𝓤 H A mem run κs a g r e. refl;
+        single = λ κs a x y l l' p q. (ap (λ (g : Left). g .said) (same p q), ap (λ (g : Left). (g .chip, tt)) (same p q));
+      };
+      cEntitled = record {
+        promise = λ κs a r e. r ≡ lookOf (a .0 .now) (setOf (entitled (a .0 .now)));
+        free = λ M 𝓤 H A mem run κs a g. refl;
+        says = λ M 𝓤 H A mem run κs a g r e. refl;
+        single = λ κs a x y l l' p q. (same p q, refl);
+      };
+      cStatus = record {
+        promise = λ κs a r e. r ≡ lookOf (a .0 .now) (status (a .0 .now));
+        free = λ M 𝓤 H A mem run κs a g. refl;
+        says = λ M 𝓤 H A mem run κs a g r e. refl;
+        single = λ κs a x y l l' p q. (same p q, refl);
+      };
+      cRun = record {
+        promise = λ κs a r e. runLeft (e .0 .now) r (e .1 .0 .now) (e .1 .1 .1 .0 .now) ≡ runCallOf (ranOf (a .0 .now) (a .1 .0 .now) (a .1 .1 .0 .now) (a .1 .1 .1 .0 .now) (a .1 .1 .1 .1 .0) (a .1 .1 .1 .1 .1 .0));
+        free = λ M 𝓤 H A mem run κs a g. refl;
+        says = λ M 𝓤 H A mem run κs a g r e. refl;
+        single = λ κs a x y l l' p q. (ap (λ (g : RunLeft). g .said) (same p q), ap (λ (g : RunLeft). (g .chip, (g .memory, (tt, (g .room, (tt, (tt, tt))))))) (same p q));
+      };
+      cRound = record {
+        promise = λ κs a r e. roundLeft (e .0 .now) r (e .1 .0 .now) (e .1 .1 .1 .0 .now) ≡ roundCallOf (roundedOf (a .0 .now) (a .1 .0 .now) (a .1 .1 .0 .now) (a .1 .1 .1 .0 .now) (a .1 .1 .1 .1 .0));
+        free = λ M 𝓤 H A mem run κs a g. refl;
+        says = λ M 𝓤 H A mem run κs a g r e. refl;
+        single = λ κs a x y l l' p q. (ap (λ (g : RoundLeft). g .said) (same p q), ap (λ (g : RoundLeft). (g .chip, (g .memory, (tt, (g .room, (tt, tt)))))) (same p q));
+      };
+      cSave = record {
+        promise = λ κs a r e. saved r (e .1 .0 .now) ≡ saveOf (sheetWriteOf One (a .0 .now) (a .1 .0 .now));
+        free = λ M 𝓤 H A mem run κs a g. refl;
+        says = λ M 𝓤 H A mem run κs a g r e. refl;
+        single = λ κs a x y l l' p q. (ap (λ (g : Saved). g .refusal) (same p q), ap (λ (g : Saved). (tt, (g .sheet, tt))) (same p q));
+      };
+      cLoad = record {
+        promise = λ κs a r e. left (e .0 .now) (told r 0) ≡ loadOf (sheetReadOf One (a .0 .now) (a .1 .0 .now));
+        free = λ M 𝓤 H A mem run κs a g. refl;
+        says = λ M 𝓤 H A mem run κs a g r e. refl;
+        single = λ κs a x y l l' p q. (ap (λ (g : Left). g .said .refusal) (same p q), ap (λ (g : Left). (g .chip, (tt, tt))) (same p q));
+      };
     }
 
 pub one-outcome-where-asked : OneOutcomeWhereAsked

@@ -1,8 +1,8 @@
 -- All that the owner asked for, proved.
 use Rattle.owner.specs.Owner.{Owner}
 use Rattle.demands.proofs.Refusals.{demand-1}
-use Rattle.demands.proofs.Calls.{demand-1-of-calls, sheets-stay-good}
-use Rattle.demands.proofs.Outcomes.{one-outcome, one-outcome-where-asked}
+use Rattle.demands.proofs.Calls.{demand-1-of-calls, chips-stay-good}
+use Rattle.demands.proofs.Outcomes.{one-outcome, one-outcome-of-calls, one-outcome-where-asked}
 use Rattle.demands.proofs.Ranges.{ranges-kept}
 use Rattle.demands.proofs.Steps.{steps-over-the-width}
 use Rattle.demands.proofs.Sheets.{round-trips}
@@ -16,12 +16,13 @@ owner =
       refusals = demand-1;
       refusalsInC = demand-1-of-calls;
       oneOutcome = one-outcome;
+      oneOutcomeInC = one-outcome-of-calls;
       oneOutcomeWhereAsked = one-outcome-where-asked;
       steps = steps-over-the-width;
       cases = worked-cases;
       sheetTrips = round-trips;
       ranges = ranges-kept;
-      goodSheets = sheets-stay-good;
+      goodChips = chips-stay-good;
       rounds = round-is-calls;
       roundsAmongOthers = spelled-leads;
       roundStops = round-stops;

@@ -1,7 +1,7 @@
 -- What the owner asked for, as one statement. Its one theorem is `owner`.
 use Rattle.demands.specs.Refusals.{Demand1}
-use Rattle.demands.specs.Calls.{Demand1OfCalls, SheetsStayGood}
-use Rattle.demands.specs.Outcomes.{OneOutcome, OneOutcomeWhereAsked}
+use Rattle.demands.specs.Calls.{Demand1OfCalls, ChipsStayGood}
+use Rattle.demands.specs.Outcomes.{OneOutcome, OneOutcomeOfCalls, OneOutcomeWhereAsked}
 use Rattle.demands.specs.Ranges.{RangesKept}
 use Rattle.demands.specs.Steps.{StepsOverTheWidth}
 use Rattle.demands.specs.Sheets.{RoundTrips}
@@ -9,22 +9,23 @@ use Rattle.demands.specs.Rounds.{RoundIsCalls, RoundStops, SpelledLeads}
 use Rattle.demands.specs.Fairness.{Demand3, Demand3Reported, LowestKept}
 use Rattle.owner.specs.Cases.{WorkedCases, Tight}
 
-pub record Owner : Type 0 where
+pub record Owner : Type 2 where
   -- Demand 1: a refusal says its number, exactly when its condition is the first that holds, and changes nothing; of the C calls, too.
   pub refusals : Demand1
   pub refusalsInC : Demand1OfCalls
   -- Demand 2: each public function of words, am9517, am9517_service, am9517_sheet and c_am9517 admits one outcome only; those public by need,
   -- where they get what they ask for.
   pub oneOutcome : OneOutcome
+  pub oneOutcomeInC : OneOutcomeOfCalls
   pub oneOutcomeWhereAsked : OneOutcomeWhereAsked
   -- The step is shown once over the width, and the worked cases hold.
   pub steps : StepsOverTheWidth
   pub cases : WorkedCases
   -- Sheets are read as they were written, and written as they were read.
   pub sheetTrips : RoundTrips
-  -- Ranges are kept, and so is a good sheet that a C program owns.
+  -- Ranges are kept, and so is a chip in its ranges that a C program owns.
   pub ranges : RangesKept
-  pub goodSheets : SheetsStayGood
+  pub goodChips : ChipsStayGood
   -- A round is its grants and runs, alone and among other operations, and never says "dropped", "limit" or "ended".
   pub rounds : RoundIsCalls
   pub roundsAmongOthers : SpelledLeads
