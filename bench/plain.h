@@ -1,16 +1,8 @@
 /* A plain model of document 01 in C: one transfer after the other, each rule where the document has it. It is the
-   measure that the proved controller is held to; bench/check compares the two. */
+   measure that the proved controller is held to; bench/check compares the two. plain.c has the works over it, plain_calls.c
+   the calls of the C library by pointer; all take the struct of am9517.h. */
+#include "am9517.h"
 #include "works.h"
-
-struct channel {
-    u16 base_address, address, base_count, count;
-    u8 mode;
-};
-
-struct controller {
-    struct channel channels[4];
-    u8 command, tc, request, mask, temporary, flip_flop, pins, lowest, in_service, serving, latch_full, latch;
-};
 
 enum reason { ENDED, DROPPED, CASCADE, LIMIT, SHORT, DONE, QUIET };
 
@@ -34,7 +26,7 @@ static int bit(u32 byte, u32 n) { return byte >> n & 1; }
 
 static int mode_refused(u8 mode) { return (mode >> 2 & 3) == 3 && mode >> 6 != 3; }
 
-static int valid(const struct controller *c)
+static int valid(const am9517_chip *c)
 {
     for (int n = 0; n < 4; n++)
         if ((c->channels[n].mode & 3) != 0 || mode_refused(c->channels[n].mode)) return 0;
@@ -47,17 +39,17 @@ static int valid(const struct controller *c)
 
 /* ---- who may be served ---- */
 
-static int active(const struct controller *c, u32 n) { return bit(c->pins, n) != bit(c->command, 6); }
+static int active(const am9517_chip *c, u32 n) { return bit(c->pins, n) != bit(c->command, 6); }
 
-static int counted(const struct controller *c, u32 n) { return bit(c->request, n) && c->channels[n].mode >> 6 == 2; }
+static int counted(const am9517_chip *c, u32 n) { return bit(c->request, n) && c->channels[n].mode >> 6 == 2; }
 
-static int entitled(const struct controller *c, u32 n)
+static int entitled(const am9517_chip *c, u32 n)
 {
     if (bit(c->command, 2)) return 0;
     return (active(c, n) && !bit(c->mask, n)) || counted(c, n);
 }
 
-static int picked(const struct controller *c)
+static int picked(const am9517_chip *c)
 {
     for (u32 k = 0; k < 4; k++) {
         u32 n = bit(c->command, 4) ? (c->lowest + 1 + k) % 4 : k;
@@ -66,7 +58,7 @@ static int picked(const struct controller *c)
     return -1;
 }
 
-static void grant(struct controller *c, int n)
+static void grant(am9517_chip *c, int n)
 {
     if (bit(c->command, 4)) c->lowest = (u8)n;
     c->in_service = 1;
@@ -75,7 +67,7 @@ static void grant(struct controller *c, int n)
     c->latch = 0;
 }
 
-static void end_service(struct controller *c)
+static void end_service(am9517_chip *c)
 {
     c->in_service = 0;
     c->serving = 0;
@@ -85,7 +77,7 @@ static void end_service(struct controller *c)
 
 /* ---- registers ---- */
 
-static void master_clear(struct controller *c)
+static void master_clear(am9517_chip *c)
 {
     end_service(c);
     c->command = c->tc = c->request = c->temporary = c->flip_flop = 0;
@@ -100,9 +92,9 @@ static u16 with_byte(u16 word, int high, u8 byte)
     return high ? (u16)((word & 0xff) | byte << 8) : (u16)((word & 0xff00) | byte);
 }
 
-static void write_port(struct controller *c, u32 reg, u8 byte)
+static void write_port(am9517_chip *c, u32 reg, u8 byte)
 {
-    struct channel *ch = &c->channels[reg / 2];
+    am9517_channel *ch = &c->channels[reg / 2];
     u16 *base = reg % 2 ? &ch->base_count : &ch->base_address;
     u16 *current = reg % 2 ? &ch->count : &ch->address;
     *base = with_byte(*base, c->flip_flop, byte);
@@ -110,7 +102,7 @@ static void write_port(struct controller *c, u32 reg, u8 byte)
     c->flip_flop ^= 1;
 }
 
-static u32 write_refusal(const struct controller *c, u32 reg, u8 byte)
+static u32 write_refusal(const am9517_chip *c, u32 reg, u8 byte)
 {
     if (!valid(c)) return 1;
     if (reg > 15) return 2;
@@ -119,7 +111,7 @@ static u32 write_refusal(const struct controller *c, u32 reg, u8 byte)
     return reg == 11 && mode_refused(byte) ? 5 : 0;
 }
 
-static u32 write_register(struct controller *c, u32 reg, u8 byte)
+static u32 write_register(am9517_chip *c, u32 reg, u8 byte)
 {
     u32 no = write_refusal(c, reg, byte);
     if (no != 0) return no + 256;
@@ -136,7 +128,7 @@ static u32 write_register(struct controller *c, u32 reg, u8 byte)
     return 0;
 }
 
-static u8 status(const struct controller *c)
+static u8 status(const am9517_chip *c)
 {
     u32 requests = 0;
     for (u32 n = 0; n < 4; n++)
@@ -144,16 +136,16 @@ static u8 status(const struct controller *c)
     return (u8)(c->tc | requests);
 }
 
-static u8 read_port(struct controller *c, u32 reg)
+static u8 read_port(am9517_chip *c, u32 reg)
 {
-    const struct channel *ch = &c->channels[reg / 2];
+    const am9517_channel *ch = &c->channels[reg / 2];
     u16 word = reg % 2 ? ch->count : ch->address;
     u8 byte = (u8)(c->flip_flop ? word >> 8 : word);
     c->flip_flop ^= 1;
     return byte;
 }
 
-static u32 read_register(struct controller *c, u32 reg)
+static u32 read_register(am9517_chip *c, u32 reg)
 {
     if (!valid(c)) return 257;
     if (reg > 15) return 258;
@@ -181,9 +173,9 @@ struct lent {
 static u16 stepped(u16 address, u8 mode) { return (u16)(bit(mode, 5) ? address - 1 : address + 1); }
 
 /* TC or EOP met channel n. */
-static void finish(struct controller *c, int copies, u32 n)
+static void finish(am9517_chip *c, int copies, u32 n)
 {
-    struct channel *ch = &c->channels[n];
+    am9517_channel *ch = &c->channels[n];
     c->request &= (u8)~(copies ? 3u : 1u << n);
     if (bit(ch->mode, 4)) {
         ch->address = ch->base_address;
@@ -195,7 +187,7 @@ static void finish(struct controller *c, int copies, u32 n)
 }
 
 /* The count steps; whether TC or EOP ended the service. */
-static int counted_down(struct controller *c, int copies, u32 n, int eop)
+static int counted_down(am9517_chip *c, int copies, u32 n, int eop)
 {
     int tc = c->channels[n].count-- == 0;
     if (tc) c->tc |= (u8)(1u << n);
@@ -204,9 +196,9 @@ static int counted_down(struct controller *c, int copies, u32 n, int eop)
     return 1;
 }
 
-static enum reason copy_service(struct controller *c, u8 *memory, u64 limit, u64 eop_at, struct counts *total)
+static enum reason copy_service(am9517_chip *c, u8 *memory, u64 limit, u64 eop_at, struct counts *total)
 {
-    struct channel *from = &c->channels[0], *to = &c->channels[1];
+    am9517_channel *from = &c->channels[0], *to = &c->channels[1];
     u64 made = 0;
     int over = 0;
     while (!over && made != limit) {
@@ -223,7 +215,7 @@ static enum reason copy_service(struct controller *c, u8 *memory, u64 limit, u64
 }
 
 /* A transfer's working states; the upper address byte is latched where it is new. */
-static u32 cost(struct controller *c, u16 address)
+static u32 cost(am9517_chip *c, u16 address)
 {
     u32 states = bit(c->command, 3) ? 2 : 3;
     if (c->latch_full && c->latch == address >> 8) return states;
@@ -232,10 +224,10 @@ static u32 cost(struct controller *c, u16 address)
     return states + 1;
 }
 
-static enum reason device_service(struct controller *c, struct lent l, u64 limit, u64 eop_at, struct counts *total)
+static enum reason device_service(am9517_chip *c, struct lent l, u64 limit, u64 eop_at, struct counts *total)
 {
     u32 n = c->serving;
-    struct channel *ch = &c->channels[n];
+    am9517_channel *ch = &c->channels[n];
     int kind = ch->mode >> 6, way = ch->mode >> 2 & 3;
     struct counts t = *total;
     u64 made = 0;
@@ -267,13 +259,13 @@ static enum reason device_service(struct controller *c, struct lent l, u64 limit
     return why;
 }
 
-static enum reason serve(struct controller *c, struct lent l, u64 limit, u64 eop_at, struct counts *total)
+static enum reason serve(am9517_chip *c, struct lent l, u64 limit, u64 eop_at, struct counts *total)
 {
     if (bit(c->command, 0) && c->serving == 0) return copy_service(c, l.memory, limit, eop_at, total);
     return device_service(c, l, limit, eop_at, total);
 }
 
-static struct told run(struct controller *c, struct lent l, u64 limit, u64 eop_at)
+static struct told run(am9517_chip *c, struct lent l, u64 limit, u64 eop_at)
 {
     struct told t = {0};
     t.refusal = !valid(c) ? 1 : l.memory_length != 65536 ? 7 : !c->in_service ? 8 : 0;
@@ -283,7 +275,7 @@ static struct told run(struct controller *c, struct lent l, u64 limit, u64 eop_a
 
 /* ---- a round ---- */
 
-static struct told round_of(struct controller *c, struct lent l, u32 k)
+static struct told round_of(am9517_chip *c, struct lent l, u32 k)
 {
     struct told t = {0};
     t.refusal = !valid(c) ? 1 : k > 4096 ? 2 : l.memory_length != 65536 ? 7 : c->in_service ? 3 : 0;
@@ -314,24 +306,18 @@ static u32 sum_of(const u8 *body)
     return sum;
 }
 
-static int trailer_right(const u8 *sheet)
+/* The state that a sheet's body tells, whatever its ranges. */
+static am9517_chip fields_in(const u8 *sheet)
 {
-    const u8 *t = sheet + 48;
-    return t[6] == 0x44 && t[7] == 0x4d && t[0] == 1 && t[1] == 0 && t[2] == 48 && t[3] == 0 && word(t + 4) == sum_of(sheet);
-}
-
-/* The state of a sheet of 56 bytes, a fresh one where the sheet is refused. */
-static struct controller state_in(const u8 *sheet)
-{
-    struct controller fresh = {.mask = 15, .lowest = 3}, c;
+    am9517_chip c;
     const u8 *b = sheet + 36;
     for (int n = 0; n < 4; n++) {
         const u8 *p = sheet + 9 * n;
-        c.channels[n] = (struct channel){word(p), word(p + 2), word(p + 4), word(p + 6), p[8]};
+        c.channels[n] = (am9517_channel){word(p), word(p + 2), word(p + 4), word(p + 6), p[8]};
     }
     c.command = b[0], c.tc = b[1], c.request = b[2], c.mask = b[3], c.temporary = b[4], c.flip_flop = b[5];
     c.pins = b[6], c.lowest = b[7], c.in_service = b[8], c.serving = b[9], c.latch_full = b[10], c.latch = b[11];
-    return trailer_right(sheet) && valid(&c) ? c : fresh;
+    return c;
 }
 
 static void put_word(u8 *b, u32 value)
@@ -340,13 +326,13 @@ static void put_word(u8 *b, u32 value)
     b[1] = (u8)(value >> 8);
 }
 
-static void write_sheet(const struct controller *c, u8 *sheet)
+static void write_sheet(const am9517_chip *c, u8 *sheet)
 {
     const u8 fields[12] = {c->command, c->tc, c->request, c->mask, c->temporary, c->flip_flop,
                            c->pins, c->lowest, c->in_service, c->serving, c->latch_full, c->latch};
     const u8 trailer[8] = {1, 0, 48, 0, 0, 0, 0x44, 0x4d};
     for (int n = 0; n < 4; n++) {
-        const struct channel *ch = &c->channels[n];
+        const am9517_channel *ch = &c->channels[n];
         u8 *p = sheet + 9 * n;
         put_word(p, ch->base_address), put_word(p + 2, ch->address);
         put_word(p + 4, ch->base_count), put_word(p + 6, ch->count);
@@ -355,66 +341,4 @@ static void write_sheet(const struct controller *c, u8 *sheet)
     for (int i = 0; i < 12; i++) sheet[36 + i] = fields[i];
     for (int i = 0; i < 8; i++) sheet[48 + i] = trailer[i];
     put_word(sheet + 52, sum_of(sheet));
-}
-
-/* ---- the works ---- */
-
-static u64 mixed(const struct told *t)
-{
-    const struct counts *n = &t->counts;
-    u64 number = t->refusal ? t->refusal + 256 : (u64)t->why;
-    u64 begun = t->services[0] + t->services[1] * 2ul + t->services[2] * 3ul + t->services[3] * 4ul;
-    return number + begun + n->transfers * 2 + n->used * 3 + n->written * 5 + n->states * 7;
-}
-
-/* Each turn starts from one of two states, told by what the last turn gave, and stores all that it gives. */
-#define TURNS(work) \
-    struct controller starts[2] = {state_in(first), state_in(second)}; \
-    struct controller after[2] = {starts[0], starts[1]}; \
-    u64 last = 0; \
-    (void)first_length, (void)second_length; \
-    for (u64 left = times; left > 0; left--) { \
-        u64 i = last % 2; \
-        struct controller c = starts[i]; \
-        work; \
-        after[i] = c; \
-    } \
-    write_sheet(&after[0], first);
-
-u64 plain_nothing(u8 *first, usize first_length, const u8 *second, usize second_length, u64 times)
-{
-    TURNS(last = c.temporary)
-    return last;
-}
-
-u64 plain_write(u8 *first, usize first_length, const u8 *second, usize second_length, u32 reg, u32 other, u8 byte, u64 times)
-{
-    u32 regs[2] = {reg, other};
-    TURNS(last = write_register(&c, regs[i], byte))
-    return last;
-}
-
-u64 plain_read(u8 *first, usize first_length, const u8 *second, usize second_length, u32 reg, u32 other, u64 times)
-{
-    u32 regs[2] = {reg, other};
-    TURNS(last = read_register(&c, regs[i]))
-    return last;
-}
-
-u64 plain_run(u8 *first, usize first_length, const u8 *second, usize second_length, u8 *memory, usize memory_length,
-              const u8 *device, usize device_length, u8 *room, usize room_length, u64 limit, u64 eop_at, u64 times)
-{
-    struct lent l = {memory, memory_length, device, device_length, room, room_length};
-    struct told told[2] = {0};
-    TURNS(told[i] = run(&c, l, limit, eop_at); last = told[i].counts.states)
-    return mixed(&told[0]);
-}
-
-u64 plain_round(u8 *first, usize first_length, const u8 *second, usize second_length, u8 *memory, usize memory_length,
-                const u8 *device, usize device_length, u8 *room, usize room_length, u32 k, u64 times)
-{
-    struct lent l = {memory, memory_length, device, device_length, room, room_length};
-    struct told told[2] = {0};
-    TURNS(told[i] = round_of(&c, l, k); last = told[i].counts.states)
-    return mixed(&told[0]);
 }
