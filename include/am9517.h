@@ -45,13 +45,13 @@
 #ifndef AM9517_H
 #define AM9517_H
 
-#include <stddef.h>
-#include <stdint.h>
-
 /* Another platform can't link the library: say it here, not there. AM9517_ANY_PLATFORM is for tools that only read. */
 #if !defined(AM9517_ANY_PLATFORM) && (!defined(__x86_64__) || !defined(__linux__) || defined(__ILP32__))
 #error "am9517.h: libam9517 is for x86-64 Linux with 64-bit pointers alone"
 #endif
+
+#include <stddef.h>
+#include <stdint.h>
 
 #ifdef __cplusplus
 extern "C" {

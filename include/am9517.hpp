@@ -11,6 +11,10 @@
 #ifndef AM9517_HPP
 #define AM9517_HPP
 
+#if !defined(__cplusplus) || __cplusplus < 201703L
+#error "am9517.hpp: C++17 or later is wanted (am9517.h serves C and older C++)"
+#endif
+
 #include <array>
 #include <cstddef>
 #include <cstdint>
@@ -18,10 +22,6 @@
 #include <utility>
 
 #include "am9517.h"
-
-#if !defined(__cplusplus) || __cplusplus < 201703L
-#error "am9517.hpp: C++17 or later is wanted (am9517.h serves C and older C++)"
-#endif
 
 namespace am9517 {
 
