@@ -72,7 +72,7 @@ filled() {
 cp include/am9517.h include/am9517.hpp "$new/include/"
 cp target/staticlib/libc_am9517.a "$new/lib/libam9517.a"
 # memset is asked of the C library by name; nothing but the calls is shown
-"$tools/bin/ld.lld" -shared -soname "libam9517.so.$major" -z defs -z text -z now -z noexecstack --version-script packaging/exports.map \
+"$tools/bin/ld.lld" -shared -soname "libam9517.so.$major" -z defs -z text -z now -z noexecstack --build-id --version-script packaging/exports.map \
     -o "$new/lib/libam9517.so.$version" --whole-archive "$new/lib/libam9517.a" --no-whole-archive "$tools/lib/libc.so.6"
 chmod 755 "$new/lib/libam9517.so.$version"
 ln -s "libam9517.so.$version" "$new/lib/libam9517.so.$major"

@@ -9,13 +9,13 @@
 
 enum { PAGE = 4096, MEMORY = AM9517_MEMORY_SIZE, MOST = 300, TURNS = 4000 };
 
-/* ---- areas: one fenced, one free, of the same bytes */
+/* ---- areas: one fenced, one free, of the same bytes; the free one begins anywhere, a chip at an even place */
 
 struct area {
     uint8_t *fenced;    /* between two pages that may not be touched */
     uint8_t *free;
     size_t size, pages; /* bytes now, bytes between the fences */
-    uint8_t *at;        /* where the fenced ones begin now */
+    uint8_t *at, *loose; /* where the two begin now */
 };
 
 static uint8_t *mapped(size_t size)
@@ -29,7 +29,7 @@ static uint8_t *mapped(size_t size)
 static int made(struct area *a, size_t pages)
 {
     a->pages = pages;
-    a->free = mapped(pages);
+    a->free = mapped(pages + PAGE);
     a->fenced = mapped(pages + 2 * PAGE);
     if (a->free == MAP_FAILED || a->fenced == MAP_FAILED)
         return 0;
@@ -40,16 +40,17 @@ static int made(struct area *a, size_t pages)
 }
 
 /* The area has `size` bytes from now on, at the fence behind or at the one before; both makes hold the same. */
-static void placed(struct area *a, size_t size, int behind)
+static void placed(struct area *a, size_t size, int behind, size_t shift)
 {
     a->size = size;
     a->at = behind ? a->fenced + a->pages - size : a->fenced;
-    memcpy(a->at, a->free, size);
+    a->loose = a->free + shift;
+    memcpy(a->at, a->loose, size);
 }
 
 static int same(const struct area *a)
 {
-    return memcmp(a->at, a->free, a->size) == 0;
+    return memcmp(a->at, a->loose, a->size) == 0;
 }
 
 /* ---- what is drawn */
@@ -98,9 +99,9 @@ struct numbers {
 
 static uint64_t call(int fenced, const struct numbers *n)
 {
-    am9517_chip *c = (am9517_chip *)(void *)(fenced ? chip.at : chip.free);
-    uint8_t *m = fenced ? memory.at : memory.free, *r = fenced ? room.at : room.free, *s = fenced ? sheet.at : sheet.free;
-    const uint8_t *d = fenced ? device.at : device.free;
+    am9517_chip *c = (am9517_chip *)(void *)(fenced ? chip.at : chip.loose);
+    uint8_t *m = fenced ? memory.at : memory.loose, *r = fenced ? room.at : room.loose, *s = fenced ? sheet.at : sheet.loose;
+    const uint8_t *d = fenced ? device.at : device.loose;
     switch (n->which) {
     case 0: return am9517_write(c, n->reg, n->byte);
     case 1: return am9517_read(c, n->reg).value;
@@ -127,12 +128,13 @@ static int turn(uint32_t i)
     draw_chip(&now);
     if (n.which == 7 && drawn(8) != 0)
         now.in_service = now.serving = 0;
-    memcpy(chip.free, &now, sizeof now);
-    placed(&chip, sizeof now, i & 1);
-    placed(&memory, drawn(16) ? MEMORY : MEMORY - 1 - drawn(2), i >> 1 & 1);
-    placed(&device, drawn(MOST), i >> 2 & 1);
-    placed(&room, drawn(MOST), i >> 3 & 1);
-    placed(&sheet, 50 + drawn(20), i >> 4 & 1);
+    const uint32_t even = 2 * drawn(8);
+    memcpy(chip.free + even, &now, sizeof now);
+    placed(&chip, sizeof now, i & 1, even);
+    placed(&memory, drawn(16) ? MEMORY : MEMORY - 1 - drawn(2), i >> 1 & 1, drawn(16));
+    placed(&device, drawn(MOST), i >> 2 & 1, drawn(16));
+    placed(&room, drawn(MOST), i >> 3 & 1, drawn(16));
+    placed(&sheet, 50 + drawn(20), i >> 4 & 1, drawn(16));
     const uint64_t fenced = call(1, &n), free = call(0, &n);
     return fenced == free && same(&chip) && same(&memory) && same(&device) && same(&room) && same(&sheet);
 }
