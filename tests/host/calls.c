@@ -370,11 +370,27 @@ static void whole_memory(void)
     expect(guards() && at.memory[MEMORY] == 0x55, "guards of a whole memory", 0);
 }
 
-/* ---- rounds */
+/* ---- rounds, and what comes first where several grounds hold */
 
 static uint32_t round_over(size_t memory_size, uint32_t k)
 {
     return round_alone(am9517_round(chip, at.memory, memory_size, device, 4, at.room, ROOM, k));
+}
+
+static void orders(void)
+{
+    begin();
+    refused(run_over(65535), AM9517_MEMORY, "run: 7 before 8");
+    opened(0x84, 3);
+    refused(am9517_write(chip, 16, 0x0c), AM9517_NUMBER, "write: 2 before 3");
+    refused(am9517_write(chip, 14, 0), AM9517_IN_SERVICE, "write: 3 before 4");
+    refused(am9517_write(chip, 11, 0x0c), AM9517_IN_SERVICE, "write: 3 before 5");
+    refused(alone(am9517_read(chip, 16)), AM9517_NUMBER, "read: 2 before 3");
+    refused(alone(am9517_read(chip, 15)), AM9517_IN_SERVICE, "read: 3 before 4");
+    refused(alone(am9517_grant(chip)), AM9517_IN_SERVICE, "grant: 3 before 6");
+    refused(round_over(65535, 4097), AM9517_NUMBER, "round: 2 before 7");
+    refused(round_over(65535, 1), AM9517_MEMORY, "round: 7 before 3");
+    refused(round_over(MEMORY, 0), AM9517_IN_SERVICE, "round of none: 3");
 }
 
 static void rounds(void)
@@ -512,6 +528,7 @@ int main(void)
     runs_from_memory();
     whole_memory();
     rounds();
+    orders();
     saved();
     bad_sheets();
     loaded();
