@@ -121,6 +121,16 @@ static uint64_t call(int fenced, const struct numbers *n)
     }
 }
 
+/* By fields: the byte behind a channel's first nine is padding. */
+static int same_chip(void)
+{
+    const size_t tc = offsetof(am9517_chip, tc);
+    for (size_t n = 0; n < 4; n++)
+        if (memcmp(chip.at + n * sizeof(am9517_channel), chip.loose + n * sizeof(am9517_channel), 9) != 0)
+            return 0;
+    return memcmp(chip.at + tc, chip.loose + tc, sizeof(am9517_chip) - tc) == 0;
+}
+
 static int turn(uint32_t i)
 {
     const struct numbers n = {drawn(12), drawn(17), drawn(20), (uint8_t)drawn(256), drawn(4) ? 65536 : drawn(50), drawn(4) ? 0 : drawn(50)};
@@ -136,7 +146,7 @@ static int turn(uint32_t i)
     placed(&room, drawn(MOST), i >> 3 & 1, drawn(16));
     placed(&sheet, 50 + drawn(20), i >> 4 & 1, drawn(16));
     const uint64_t fenced = call(1, &n), free = call(0, &n);
-    return fenced == free && same(&chip) && same(&memory) && same(&device) && same(&room) && same(&sheet);
+    return fenced == free && same_chip() && same(&memory) && same(&device) && same(&room) && same(&sheet);
 }
 
 int main(void)
