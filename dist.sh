@@ -1,47 +1,99 @@
 #!/bin/sh
 usage() {
     cat <<'TEXT'
-usage: ./dist.sh
+usage: ./dist.sh [--to FOLDER] [--install]
 
-Proves the crate c_am9517 and makes dist/, the C library as a host takes it.
+Proves the crate c_am9517 and the program rack and makes dist/: the C library as a host
+takes it, and the console as a pier runs it, with no toolchain.
+  --to FOLDER  makes FOLDER instead of dist/
+  --install    then installs the library (not the console): headers, archive, shared
+               library, pkg-config, CMake, manual page. PREFIX says where (/usr/local),
+               DESTDIR stands for / when packing. FOLDER/install.sh does the same later,
+               and elsewhere, with no toolchain
 
-needs   the Rattle toolchain (its command rt)
-writes  dist/lib/libam9517.a, dist/include/am9517.h, dist/lib/pkgconfig/am9517.pc,
-        dist/LICENSE, dist/README, in place of an old dist/; and target/
-takes   minutes, for the proofs
+needs   the Rattle toolchain (its command rt), whose own linker makes the shared library
+writes  FOLDER: include/, lib/, share/man, examples/, rack/, install.sh, LICENSE, README,
+        in place of an old one; target/; with --install DESTDIR/PREFIX
+takes   minutes, for the proofs; seconds where all is proved
 TEXT
 }
 
-case "${1-}" in
-    -h | --help) usage; exit 0 ;;
-esac
-[ $# -eq 0 ] || { echo "dist: $1 is unknown (./dist.sh --help tells more)" >&2; exit 2; }
+refuse() {
+    echo "dist: $1 (./dist.sh --help tells more)" >&2
+    exit 2
+}
+
+fail() {
+    echo "dist: $1" >&2
+    exit 1
+}
+
 set -eu
+called=$PWD
 cd "$(dirname "$0")"
+out=$PWD/dist
+install=
+while [ $# -gt 0 ]; do
+    case $1 in
+        -h | --help) usage; exit 0 ;;
+        --install) install=yes ;;
+        --to)
+            [ -n "${2-}" ] || refuse "--to wants a folder"
+            case $2 in /*) out=$2 ;; *) out=$called/$2 ;; esac
+            shift ;;
+        *) refuse "$1 is unknown" ;;
+    esac
+    shift
+done
+if ! command -v rt > /dev/null 2>&1; then
+    [ ! -x "$out/install.sh" ] || echo "dist: what $out has from earlier can be installed with no toolchain: $out/install.sh" >&2
+    fail "the Rattle toolchain (its command rt) is not installed, or not on PATH, and only it proves and makes the library"
+fi
+if [ -e "$out" ] && [ ! -e "$out/install.sh" ] && [ ! -e "$out/lib/libam9517.a" ]; then
+    fail "$out is there and is no distribution: it isn't replaced"
+fi
+
+version=$(sed -n 's/^#define AM9517_VERSION_\(MAJOR\|MINOR\|PATCH\) //p' include/am9517.h | paste -sd. -)
+major=${version%%.*}
+tools=$(dirname -- "$(dirname -- "$(readlink -f -- "$(rt doc)")")")/on/$(uname -m)/toolchain
+
 rt staticlib c_am9517
-rm -rf dist
-mkdir -p dist/lib/pkgconfig dist/include
-cp target/staticlib/libc_am9517.a dist/lib/libam9517.a
-cp include/am9517.h dist/include/
-cp LICENSE dist/LICENSE
-cat > dist/README <<'TEXT'
-One Am9517A DMA controller in software, proved: the C library.
+rt check rack
 
-    cc -O2 -Iinclude -o host host.c lib/libam9517.a
-    cc host.c $(PKG_CONFIG_PATH=lib/pkgconfig pkg-config --cflags --libs am9517)
+new=$out.new
+rm -rf -- "$new"
+mkdir -p -- "$new/include" "$new/lib/pkgconfig" "$new/lib/cmake/am9517" "$new/share/man/man3" "$new/examples" "$new/rack/bin" "$new/rack/examples"
 
-include/am9517.h has the contract of each call, the refusal numbers and the end reasons.
-x86-64 Linux; of the C library the archive wants memset alone. Licence: LICENSE.
-TEXT
-cat > dist/lib/pkgconfig/am9517.pc <<'PC'
-prefix=${pcfiledir}/../..
-libdir=${prefix}/lib
-includedir=${prefix}/include
+# filled SOURCE TARGET: with the header's version
+filled() {
+    sed "s/@VERSION@/$version/g; s/@MAJOR@/$major/g" "packaging/$1" > "$new/$2"
+}
 
-Name: am9517
-Description: One Am9517A DMA controller in software, proved
-Version: 1.0.0
-Libs: -L${libdir} -lam9517
-Cflags: -I${includedir}
-PC
-echo "dist/ is made: $(find dist -type f | sort | tr '\n' ' ')"
+cp include/am9517.h include/am9517.hpp "$new/include/"
+cp target/staticlib/libc_am9517.a "$new/lib/libam9517.a"
+# memset is asked of the C library by name; nothing but the calls is shown
+"$tools/bin/ld.lld" -shared -soname "libam9517.so.$major" -z defs -z text -z now -z noexecstack --build-id --version-script packaging/exports.map \
+    -o "$new/lib/libam9517.so.$version" --whole-archive "$new/lib/libam9517.a" --no-whole-archive "$tools/lib/libc.so.6"
+chmod 755 "$new/lib/libam9517.so.$version"
+ln -s "libam9517.so.$version" "$new/lib/libam9517.so.$major"
+ln -s "libam9517.so.$major" "$new/lib/libam9517.so"
+filled am9517.pc lib/pkgconfig/am9517.pc
+filled am9517Config.cmake lib/cmake/am9517/am9517Config.cmake
+filled am9517ConfigVersion.cmake lib/cmake/am9517/am9517ConfigVersion.cmake
+cp docs/am9517.3 "$new/share/man/man3/"
+cp examples/host.c examples/host.cpp examples/host.out examples/am9517.py examples/rack_emulator.c examples/rack_emulator.out "$new/examples/"
+filled install.sh install.sh
+chmod 755 "$new/install.sh"
+filled README README
+cp LICENSE "$new/"
+
+cp packaging/rack "$new/rack/rack"
+cp target/bin/rack "$new/rack/bin/rack"
+chmod 755 "$new/rack/rack" "$new/rack/bin/rack"
+for script in examples/*.rack; do cp "$script" "${script%.rack}.out" "$new/rack/examples/"; done
+cp docs/CONSOLE.md LICENSE "$new/rack/"
+
+rm -rf -- "$out"
+mv -- "$new" "$out"
+echo "dist: $out is made, version $version: include/ lib/ share/ examples/ rack/ install.sh"
+[ -z "$install" ] || "$out/install.sh"

@@ -4,7 +4,7 @@
      harness same         each work on both sides; what they leave and tell must be equal
      harness check N      the same of N random works
    A work is a line of numbers, as struct work has them. */
-#include "works.h"
+#include "calls.h"
 
 int printf(const char *, ...);
 int scanf(const char *, ...);
@@ -55,19 +55,35 @@ static void put_trailer(u8 *sheet)
     sheet[54] = 0x44, sheet[55] = 0x4d;
 }
 
+static int is_run(const struct work *w) { return w->family == RUN || w->family == C_RUN; }
+
+static int is_round(const struct work *w) { return w->family == ROUND || w->family == C_ROUND; }
+
 /* All lines active and unmasked; for a run the service of channel 0 is open. */
 static void put_state(u8 *sheet, const struct work *w)
 {
     for (int i = 0; i < 48; i++) sheet[i] = 0;
     for (u32 n = 0; n < 4; n++) {
-        u32 address = w->family == ROUND ? n * 0x4000 : n == 1 ? w->to : w->from;
-        put_channel(sheet, n, address, w->length - 1, n == 1 && w->family == RUN ? w->other_mode : w->mode);
+        u32 address = is_round(w) ? n * 0x4000 : n == 1 ? w->to : w->from;
+        put_channel(sheet, n, address, w->length - 1, n == 1 && is_run(w) ? w->other_mode : w->mode);
     }
     sheet[36] = (u8)w->command;
     sheet[42] = 15;
     sheet[43] = 3;
-    sheet[44] = w->family == RUN;
+    sheet[44] = (u8)is_run(w);
     put_trailer(sheet);
+}
+
+/* ---- calls of the C library ---- */
+
+static u64 do_c_work(const struct work *w, u64 times, u8 *sheet)
+{
+    struct given g = {w->reg, w->k, (u8)w->byte, device, memory, room, sheet, LENT, 65536, LENT, 56, 65536, 0};
+    am9517_chip start = am9517_fresh(), chip = start;
+    am9517_load(&start, sheet, 56);
+    u64 sum = do_call(w->family, w->side, &start, &chip, &g, times);
+    am9517_save(&chip, sheet, 56);
+    return sum;
 }
 
 /* ---- one work ---- */
@@ -106,6 +122,7 @@ static u64 do_work(const struct work *w, u64 times, u8 *first)
 {
     u8 second[56];
     put_state(first, w);
+    if (w->family >= C_NOTHING) return do_c_work(w, times, first);
     memcpy(second, first, 56);
     if (w->side == PROVED) DO(meter)
     else DO(plain)
@@ -294,11 +311,44 @@ static int differs(void)
            memcmp(outcomes[0].memory, outcomes[1].memory, 65537) || memcmp(outcomes[0].room, outcomes[1].room, 8192);
 }
 
+static int same_chip(const am9517_chip *a, const am9517_chip *b)
+{
+    for (int n = 0; n < 4; n++)
+        if (memcmp(&a->channels[n], &b->channels[n], 9) != 0) return 0;
+    return memcmp(&a->tc, &b->tc, 12) == 0;
+}
+
+/* One random call of the C library on both sides; 0 where they agree. */
+static int call_differs(void)
+{
+    int family = C_WRITE + (int)random_below(C_OVER - C_WRITE), open = random_below(8) ? family == C_RUN : family != C_RUN;
+    u8 sheet[56];
+    am9517_chip start = am9517_fresh(), chip[2];
+    u64 told[2];
+    put_random_state(sheet, open);
+    am9517_load(&start, sheet, 56);
+    if (random_below(4) == 0) ((u8 *)&start)[random_below(sizeof start)] ^= (u8)(1u << random_below(8));
+    sheet[random_below(56)] ^= (u8)(random_below(3) ? 0 : 1u << random_below(8));
+    struct given g = {random_below(17), random_below(9) ? random_below(30) : random_near(4096), (u8)random_below(random_below(2) ? 17 : 256), device, 0, 0, 0,
+                      random_below(300), random_below(16) ? 65536 : random_near(65536) & 65535, random_below(300), 56 - random_below(9) / 8,
+                      random_below(2) ? 65536 : random_below(40), random_below(2) ? random_below(30) : 0};
+    for (int side = PROVED; side <= PLAIN; side++) {
+        struct outcome *o = &outcomes[side];
+        memcpy(o->sheet, sheet, 56);
+        for (int i = 0; i < 65537; i++) o->memory[i] = (u8)(i * 31 + i / 253);
+        for (int i = 0; i < 8192; i++) o->room[i] = 0xee;
+        g.memory = o->memory, g.room = o->room, g.sheet = o->sheet;
+        told[side] = do_call(family, side, &start, &chip[side], &g, 1);
+    }
+    return told[0] != told[1] || !same_chip(&chip[0], &chip[1]) || memcmp(outcomes[0].sheet, outcomes[1].sheet, 56) ||
+           memcmp(outcomes[0].memory, outcomes[1].memory, 65537) || memcmp(outcomes[0].room, outcomes[1].room, 8192);
+}
+
 static int check(int n)
 {
     int wrong = 0;
     for (int i = 0; i < n; i++)
-        if (differs()) {
+        if (i % 2 ? call_differs() : differs()) {
             printf("work %d differs\n", i);
             wrong++;
         }

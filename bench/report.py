@@ -121,7 +121,7 @@ def missed(measured):
 
 
 def slower(measured):
-    ratios = sorted((measured.ratio(i), i) for i, work in enumerate(measured.works) if work.both() and work.key != "nothing")
+    ratios = sorted((measured.ratio(i), i) for i, work in enumerate(measured.works) if work.both() and not work.key.endswith("nothing"))
     slow = [(ratio, i) for ratio, i in ratios if ratio < 1]
     out = [f"In time {len(ratios) - len(slow)} of {len(ratios)} works are as fast as plain C or faster; asked for: all of them."]
     if slow:

@@ -1,4 +1,4 @@
-/* What the proved controller (meter_, of crate bench_meter) and the plain model (plain_) both offer. No header of a C library
+/* What the proved controller (meter_, of crate bench_meter) and the plain model (plain_) both offer. No header of this machine
    is used, so that the toolchain's own clang compiles all of this with nothing else installed.
    `first` and `second` are sheets of 56 bytes with the states that the turns start from; `first` has the state after a
    turn at the end. The answer folds what a turn told. */

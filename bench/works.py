@@ -39,7 +39,7 @@ class Work:
 
     def both(self):
         """Whether there are two sides of it: a bare copy has one."""
-        return self.numbers[0] < 5
+        return self.numbers[0] not in (5, 6)
 
 
 def read_works():

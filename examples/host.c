@@ -6,14 +6,14 @@
 
 #include "am9517.h"
 
-static uint8_t state[AM9517_STATE_SIZE];
+static am9517_chip chip;
 static uint8_t memory[AM9517_MEMORY_SIZE];
 
-/* Says which call was refused, and by which number. */
+/* Says which call was refused, by which number, and what it means. */
 static int refused(const char *call, uint32_t number)
 {
     if (number != AM9517_OK)
-        printf("%s: refused %u\n", call, (unsigned)number);
+        printf("%s: refused %u: %s\n", call, (unsigned)number, am9517_refusal_text(number));
     return number != AM9517_OK;
 }
 
@@ -27,10 +27,9 @@ static int set_up(void)
         {3, 0x0b}, {3, 0x00},     /* word count 11, low byte first */
         {0xa, 0x01},              /* unmask channel 1 */
     };
-    if (refused("fresh", am9517_fresh(state, sizeof state)))
-        return 0;
+    chip = am9517_fresh();
     for (size_t i = 0; i < sizeof program / sizeof program[0]; i++)
-        if (refused("write", am9517_write(state, sizeof state, program[i].reg, program[i].byte)))
+        if (refused("write", am9517_write(&chip, program[i].reg, program[i].byte)))
             return 0;
     return 1;
 }
@@ -43,21 +42,21 @@ int main(void)
 
     if (!set_up())
         return 1;
-    if (refused("pins", am9517_pins(state, sizeof state, 2)))  /* the hold unit raises its line */
+    if (refused("pins", am9517_pins(&chip, 2)))  /* the hold unit raises its line */
         return 1;
-    told = am9517_grant(state, sizeof state);
+    told = am9517_grant(&chip);
     if (refused("grant", told.refusal))
         return 1;
     printf("channel %u\n", (unsigned)told.value);
-    run = am9517_run(state, sizeof state, memory, sizeof memory, holds, sizeof holds, NULL, 0, 65536, 0);
+    run = am9517_run(&chip, memory, sizeof memory, holds, sizeof holds, NULL, 0, 65536, 0);
     if (refused("run", run.refusal))
         return 1;
-    printf("reason %u transfers %u used %u states %u\n", (unsigned)run.reason, (unsigned)run.transfers,
+    printf("%s transfers=%u used=%u states=%u\n", am9517_reason_text(run.reason), (unsigned)run.transfers,
            (unsigned)run.used, (unsigned)run.states);
     printf("memory at 0200h:");
     for (unsigned at = 0x0200; at < 0x0200 + sizeof holds; at++)
         printf(" %02x", memory[at]);
-    told = am9517_status(state, sizeof state);
-    printf("\nstatus %02x\n", (unsigned)told.value);
+    told = am9517_status(&chip);
+    printf("\ncount of channel 1 %04x, status %02x\n", (unsigned)chip.channels[1].count, (unsigned)told.value);
     return memory[0x020b] == 0xa7 ? 0 : 1;
 }

@@ -1,32 +1,54 @@
-/* am9517.h - one Am9517A DMA controller in software, as a C library.
+/* am9517.h - one Am9517A DMA controller in software, as a C library. Version 2.0.0.
  *
- * Link with libam9517.a; of the C library it wants memset alone. C99 or later, and C++.
+ *     am9517_chip chip = am9517_fresh();
+ *     uint32_t refusal = am9517_write(&chip, 0xb, 0x85);
+ *     if (refusal != AM9517_OK)
+ *         puts(am9517_refusal_text(refusal));
  *
- * THE STATE is 56 bytes that the caller owns: the stored sheet of document 01, form 1.
+ * Link with libam9517.a or libam9517.so.2. C99 or later, C++11 or later (am9517.hpp has a class for C++17). "Document 01"
+ * is the rules of this controller: "One Am9517A in software: rules and limits".
  *
- *     uint8_t state[AM9517_STATE_SIZE];
- *     am9517_fresh(state, sizeof state);
+ * PLATFORM. x86-64 Linux, the System V calling convention, 64-bit pointers: the library is machine code for it and for
+ * nothing else. Of the C library it wants memset alone. It has no variables, allocates nothing, reads no clock, never
+ * prints, exits or aborts, and has no unwind tables: an exception can't arise in it, and it calls nothing of the host's.
  *
- * It can be copied, kept in a file and sent as it is. Every call but am9517_fresh checks it first; a call that changes
- * it writes it back whole. A state whose form, sum or ranges are broken is refused by its number (9 to 14) instead of
- * running wild; damage that keeps all of these can't be seen. The library keeps nothing of its own between two calls: it
- * has no variables and allocates nothing, so calls that share no state, memory or room may run at the same time.
+ * THE CHIP is a struct that the caller owns, with the registers as fields: read them, show them, copy the struct, keep
+ * many. A host may also set fields; a chip that is out of the ranges told beside the fields is refused by 1 instead of
+ * running wild. A zeroed struct is within its ranges but not fresh (nothing is masked): begin with am9517_fresh. The struct
+ * has 52 bytes and is aligned to 2. Behind each `mode` lies a byte of padding that means nothing and may change in a call:
+ * compare chips by their fields or by their sheets, not by memcmp.
  *
- * REFUSALS. Each call answers a refusal number, 0 for none. The state's own come first (AM9517_SHEET_SHORT to
- * AM9517_RANGE), then the operation's in document 01's order. A refused call changes no byte of state, memory or
- * room, and the other numbers of its answer are 0.
+ * REFUSALS. Each call says a refusal number, 0 for none. Where several hold it is the first in the order that stands with
+ * the call. A refused call changes no field of the chip and no byte of memory, room or sheet, and the other numbers of its
+ * answer are 0. All numbers may be given in full: a register over 15, a limit of 2^64 - 1 and the like have defined answers.
+ * A `byte` is uint8_t: C itself narrows what is given, so am9517_write(&chip, 8, 0x110) writes 10h; ask before if the number may
+ * be larger.
  *
- * SLICES are a pointer and a number of bytes. A slice of the state may be longer than 56 bytes: the state is its
- * last 56, the rest isn't touched; shorter is refused by 9. What one call is lent must not overlap: state, memory,
- * device and room are four different areas, and a call that changes one of them assumes so. A slice of 0 bytes
- * is never looked into; its pointer may be anything, NULL too.
+ * AREAS are a pointer and a number of bytes. What one call is lent must not overlap: chip, memory, device, room or sheet are
+ * different areas, and the compiler relies on it. (Two chips may share one memory, in calls one after the other.) A pointer
+ * to a chip is never NULL. An area of 0 bytes is never looked into; its pointer may be anything, NULL too.
  *
- * All numbers may be given in full: a register over 15, a limit of 2^64 - 1 and the like have defined answers.
- * What each call gives is proved for all inputs against document 01's rules; what a C caller must keep to is only
- * that pointers are good for their lengths and that areas don't overlap.
+ * THREADS. The library keeps nothing between two calls. Calls that share no area may run at the same time: two chips, each
+ * with a memory of its own. The looking calls, whose chip is const (am9517_check, am9517_entitled, am9517_status, am9517_save),
+ * write no byte of the chip, so several may look at one chip at once. A call that changes a chip or an area must have it alone.
+ *
+ * WHAT IS PROVED. The code of each call, for all inputs: chip, memory, room, sheet and answer after it are what document 01's
+ * rules say, refused ones too. Not proved: that the declarations of this header are those of the library (they were read
+ * beside each other, and the tests make every call), the two texts below, which are plain C, the C compiler that compiles
+ * the caller, and the code generator that made the library. What a caller must keep to is what AREAS and THREADS say: good
+ * pointers, no overlap, no race.
+ *
+ * VERSIONS. A new major number: a struct, a call or a number has changed, compile again. A new minor number: more calls; what was
+ * compiled before runs on. Sheets outlive both: form 1 is document 01's. Version 1 kept the state as a sheet and had
+ * am9517_copy; its calls took the sheet where these take the chip.
  */
 #ifndef AM9517_H
 #define AM9517_H
+
+/* Another platform can't link the library: say it here, not there. AM9517_ANY_PLATFORM is for tools that only read. */
+#if !defined(AM9517_ANY_PLATFORM) && (!defined(__x86_64__) || !defined(__linux__) || defined(__ILP32__))
+#error "am9517.h: libam9517 is for x86-64 Linux with 64-bit pointers alone"
+#endif
 
 #include <stddef.h>
 #include <stdint.h>
@@ -35,14 +57,19 @@
 extern "C" {
 #endif
 
-#define AM9517_STATE_SIZE 56      /* bytes of a state */
+#define AM9517_VERSION_MAJOR 2
+#define AM9517_VERSION_MINOR 0
+#define AM9517_VERSION_PATCH 0
+#define AM9517_VERSION 20000  /* major * 10000 + minor * 100 + patch */
+
+#define AM9517_SHEET_SIZE 56      /* bytes of a stored sheet, form 1 */
 #define AM9517_MEMORY_SIZE 65536  /* bytes of a memory: a run or a round takes no other number */
 #define AM9517_ROUND_MOST 4096    /* services that a round may be asked for */
 
 /* Document 01's refusal numbers. */
 enum am9517_refusal {
     AM9517_OK = 0,
-    AM9517_STATE_RANGE = 1,   /* document 01's number for a state out of its ranges; these calls say AM9517_RANGE */
+    AM9517_STATE_RANGE = 1,   /* a field of the chip is out of its range */
     AM9517_NUMBER = 2,        /* register over 15, pins over 15, or more than 4,096 services asked for */
     AM9517_IN_SERVICE = 3,    /* register access, grant or round during a service */
     AM9517_REGISTER = 4,      /* read of 9, A, B, C, E or F, or write of E */
@@ -50,8 +77,8 @@ enum am9517_refusal {
     AM9517_NOBODY = 6,        /* grant with no entitled channel */
     AM9517_MEMORY = 7,        /* memory not of 65,536 bytes */
     AM9517_NO_SERVICE = 8,    /* run with no service open */
-    AM9517_SHEET_SHORT = 9,   /* slice under 56 bytes for a state */
-    AM9517_END_MARK = 10,     /* the state's last two bytes are not 44h, 4Dh */
+    AM9517_SHEET_SHORT = 9,   /* slice under 56 bytes for a sheet */
+    AM9517_END_MARK = 10,     /* the sheet's last two bytes are not 44h, 4Dh */
     AM9517_FORM = 11,         /* its form is not 1 */
     AM9517_DISTANCE = 12,     /* its distance from trailer to body is not 48 */
     AM9517_SUM = 13,          /* its sum is not that of its 48 body bytes */
@@ -69,6 +96,32 @@ enum am9517_reason {
     AM9517_DONE = 6,     /* rounds only: all services asked for were begun */
     AM9517_QUIET = 7     /* rounds only: nobody is entitled */
 };
+
+/* One channel: 10 bytes, aligned to 2. The byte behind `mode` is padding. */
+typedef struct am9517_channel {
+    uint16_t base_address;
+    uint16_t address;
+    uint16_t base_count;
+    uint16_t count;    /* N gives N + 1 transfers */
+    uint8_t mode;      /* bits 1-0 are 0; bits 3-2 = 11 only where bits 7-6 = 11 */
+} am9517_channel;
+
+/* One chip: 52 bytes, aligned to 2. Idle means that `serving`, `latch_full` and `latch` are 0. */
+typedef struct am9517_chip {
+    am9517_channel channels[4];
+    uint8_t tc;          /* 0 to 15: bit n, channel n has reached TC since register 8 was read */
+    uint8_t request;     /* 0 to 15: software requests, bit n for channel n */
+    uint8_t mask;        /* 0 to 15: bit n, channel n's line is masked */
+    uint8_t pins;        /* 0 to 15: the DREQ pins' levels */
+    uint8_t in_service;  /* 0 idle, 1 in service */
+    uint8_t serving;     /* 0 to 3: the serving channel; 0 while idle */
+    uint8_t latch_full;  /* 0 or 1: an upper address byte was latched in this service */
+    uint8_t latch;       /* that byte; 0 while there is none */
+    uint8_t flip_flop;   /* 0 low byte next, 1 high byte next */
+    uint8_t lowest;      /* 0 to 3: the channel of lowest priority under rotation */
+    uint8_t temporary;
+    uint8_t command;
+} am9517_chip;
 
 /* A refusal, and the value where there is none. */
 typedef struct am9517_told {
@@ -97,57 +150,124 @@ typedef struct am9517_round_told {
     uint64_t states;
 } am9517_round_told;
 
-/* Writes a fresh state: all zero but the mask (15) and the lowest channel (3). What stood there plays no part.
- * Refusals: 9. */
-uint32_t am9517_fresh(uint8_t *state, size_t state_size);
+/* The structs lie as the library has them. C99 has no words for this; a build as C11 or C++11 asks. */
+#if defined(__cplusplus) && __cplusplus >= 201103L
+#define AM9517_ASK(holds) static_assert(holds, #holds)
+#define AM9517_ALIGNED(type) alignof(type)
+#elif !defined(__cplusplus) && defined(__STDC_VERSION__) && __STDC_VERSION__ >= 201112L
+#define AM9517_ASK(holds) _Static_assert(holds, #holds)
+#define AM9517_ALIGNED(type) _Alignof(type)
+#endif
+#ifdef AM9517_ASK
+AM9517_ASK(sizeof(size_t) == 8);
+AM9517_ASK(sizeof(am9517_channel) == 10 && AM9517_ALIGNED(am9517_channel) == 2);
+AM9517_ASK(sizeof(am9517_chip) == 52 && AM9517_ALIGNED(am9517_chip) == 2);
+AM9517_ASK(offsetof(am9517_channel, mode) == 8 && offsetof(am9517_chip, tc) == 40 && offsetof(am9517_chip, command) == 51);
+AM9517_ASK(sizeof(am9517_told) == 8 && sizeof(am9517_run_told) == 40 && sizeof(am9517_round_told) == 56);
+#undef AM9517_ASK
+#undef AM9517_ALIGNED
+#endif
 
-/* Says what is wrong with a state, and changes nothing. Refusals: 9 to 14. */
-uint32_t am9517_check(const uint8_t *state, size_t state_size);
+/* AM9517_VERSION of the library that is linked: its major number must be the header's. */
+uint32_t am9517_version(void);
 
-/* Checks the state at the end of `from` and writes it at the end of `to`: loads one from a longer record, or stores
- * one there. What stood in `to` plays no part. Refusals: 9 to 14 of `from`, then 9 of `to`. */
-uint32_t am9517_copy(uint8_t *to, size_t to_size, const uint8_t *from, size_t from_size);
+/* A fresh chip: all zero but the mask (15) and the lowest channel (3). */
+am9517_chip am9517_fresh(void);
 
-/* Writes a byte to register 0 to 15. Refusals: 9 to 14, then 2, 3, 4, 5. */
-uint32_t am9517_write(uint8_t *state, size_t state_size, uint32_t reg, uint8_t byte);
+/* Says whether every field is in its range, and changes nothing. Refusals: 1. */
+uint32_t am9517_check(const am9517_chip *chip);
 
-/* Reads register 0 to 15; the byte is `value`. A read of 0 to 7 turns the flip-flop over, one of 8 clears the TC
- * bits. Refusals: 9 to 14, then 2, 3, 4. */
-am9517_told am9517_read(uint8_t *state, size_t state_size, uint32_t reg);
+/* Writes a byte to register 0 to 15. A write of 0 to 7 sets one byte of base and current, low byte first, and turns the
+ * flip-flop over; the other registers are document 01's (figure 4 of the data sheet). Refusals: 1, 2, 3, 4, 5. */
+uint32_t am9517_write(am9517_chip *chip, uint32_t reg, uint8_t byte);
 
-/* Sets the four DREQ pins, bit n for channel n, also during a service. Refusals: 9 to 14, then 2. */
-uint32_t am9517_pins(uint8_t *state, size_t state_size, uint32_t levels);
+/* Reads register 0 to 15; the byte is `value`. A read of 0 to 7 gives current and turns the flip-flop over, one of 8 gives
+ * the status and clears the TC bits, one of D gives the temporary byte. Refusals: 1, 2, 3, 4. */
+am9517_told am9517_read(am9517_chip *chip, uint32_t reg);
 
-/* Resets, also during a service. Addresses, counts, modes and pins stay. Refusals: 9 to 14. */
-uint32_t am9517_reset(uint8_t *state, size_t state_size);
+/* Sets the four DREQ pins, bit n for channel n, also during a service. Refusals: 1, 2. */
+uint32_t am9517_pins(am9517_chip *chip, uint32_t levels);
 
-/* Begins the service of the first entitled channel; the channel is `value`. Refusals: 9 to 14, then 3, 6. */
-am9517_told am9517_grant(uint8_t *state, size_t state_size);
+/* Resets, also during a service. Addresses, counts, modes and pins stay. Refusals: 1. */
+uint32_t am9517_reset(am9517_chip *chip);
 
-/* For display: the entitled channels, bit n for channel n, in `value`. Changes nothing. Refusals: 9 to 14. */
-am9517_told am9517_entitled(const uint8_t *state, size_t state_size);
+/* Begins the service of the first entitled channel; the channel is `value`. Refusals: 1, 3, 6. */
+am9517_told am9517_grant(am9517_chip *chip);
+
+/* For display: the entitled channels, bit n for channel n, in `value`. Changes nothing. Refusals: 1. */
+am9517_told am9517_entitled(const am9517_chip *chip);
 
 /* For display: the status byte as register 8 shows it (TC bits 0-3, requesting channels 4-7) in `value`, also during
- * a service. Clears nothing. Refusals: 9 to 14. */
-am9517_told am9517_status(const uint8_t *state, size_t state_size);
+ * a service. Clears nothing. Refusals: 1. */
+am9517_told am9517_status(const am9517_chip *chip);
 
 /* Runs the open service over a memory of 65,536 bytes: at most `limit` transfers; the transfer of this call numbered `eop_at`
  * (from 1; 0: none) meets external EOP. Bytes for memory are taken from `device`, bytes from memory are put into
- * `room`; room behind the last byte written isn't touched. After "limit" or "short" call again with what is left
- * of device and room. Refusals: 9 to 14, then 7, 8. */
-am9517_run_told am9517_run(uint8_t *state, size_t state_size,
+ * `room`; room behind the last byte written isn't touched. After "limit" or "short" the service is open: call again with
+ * device + used, room + written and what is left of them. Limit and EOP number count anew in each call: a limit of 100 that
+ * stopped at 100 is spent, an EOP number beyond the transfers made is forgotten. Refusals: 1, 7, 8. */
+am9517_run_told am9517_run(am9517_chip *chip,
                            uint8_t *memory, size_t memory_size,
                            const uint8_t *device, size_t device_size,
                            uint8_t *room, size_t room_size,
                            uint64_t limit, uint64_t eop_at);
 
-/* Begins up to `k` services, each granted and run with no EOP, until one doesn't end, k are begun or nobody is
- * entitled. Refusals: 9 to 14, then 2, 7, 3. */
-am9517_round_told am9517_round(uint8_t *state, size_t state_size,
+/* Begins up to `k` services (at most AM9517_ROUND_MOST, 4,096), each granted and run with a limit of 65,536 and no EOP, until
+ * one doesn't end, k are begun or nobody is entitled. Each service is handed the device bytes not yet used and the room
+ * behind the last byte written; a round stopped by "short" or "cascade" leaves its last service open, for am9517_run to go
+ * on with. For more than 4,096 services call again with device + used and room + written. Refusals: 1, 2, 7, 3. */
+am9517_round_told am9517_round(am9517_chip *chip,
                                uint8_t *memory, size_t memory_size,
                                const uint8_t *device, size_t device_size,
                                uint8_t *room, size_t room_size,
                                uint32_t k);
+
+/* Stores the chip as a sheet of form 1 in the last 56 bytes of `sheet`; bytes before them aren't touched. A chip in service
+ * can be stored, and goes on after am9517_load. Memory and device are not part of it. Refusals: 1, 9. */
+uint32_t am9517_save(const am9517_chip *chip, uint8_t *sheet, size_t size);
+
+/* Loads the chip from the sheet in the last 56 bytes of `sheet`. What the chip was plays no part; refused, it stays.
+ * Refusals: 9, 10, 11, 12, 13, 14. */
+uint32_t am9517_load(am9517_chip *chip, const uint8_t *sheet, size_t size);
+
+/* A refusal number in words, the rack console's (`help refusals`); there is a text for every number. */
+static inline const char *am9517_refusal_text(uint32_t refusal)
+{
+    switch (refusal) {
+    case 0: return "not refused";
+    case 1: return "the state breaks a range of the sheet section";
+    case 2: return "register number over 15, pins over 15, or more than 4,096 services asked for";
+    case 3: return "register access, grant or round during a service";
+    case 4: return "read of 9, A, B, C, E, F, or write of E";
+    case 5: return "mode byte with bits 3-2 = 11 and bits 7-6 not 11";
+    case 6: return "grant with no entitled channel";
+    case 7: return "memory not of 65,536 bytes";
+    case 8: return "run with no service open";
+    case 9: return "slice under 56 bytes for a sheet";
+    case 10: return "sheet fault: end mark";
+    case 11: return "sheet fault: first two trailer bytes";
+    case 12: return "sheet fault: distance";
+    case 13: return "sheet fault: sum";
+    case 14: return "sheet fault: range";
+    default: return "no refusal has this number";
+    }
+}
+
+/* A reason in one word, the rack console's; there is a text for every number. */
+static inline const char *am9517_reason_text(uint32_t reason)
+{
+    switch (reason) {
+    case 0: return "refused";
+    case 1: return "ended";
+    case 2: return "dropped";
+    case 3: return "cascade";
+    case 4: return "limit";
+    case 5: return "short";
+    case 6: return "done";
+    case 7: return "quiet";
+    default: return "no reason has this number";
+    }
+}
 
 #ifdef __cplusplus
 }

@@ -1,25 +1,28 @@
 /* The rack console's line protocol, spoken through the C library: what the comparer plays against.
  *
- * The console's state has no range check, the library's state is a stored sheet. Here the sheet is always sealed, so
- * of the state's refusals only 14 can come, and it comes exactly where the console says 1. The state stands at the
- * end of a cell whose front must never change; calls are lent more or less of that front in turn. */
+ * `state BYTES` sets the chip's fields, whatever their ranges, and `state` shows them; `sheet` and `load` are the library's.
+ * The chip stands between guard bytes. After each command what the looking calls say is held to what the operations say of
+ * a copy, and a chip in its ranges must come back whole out of its own sheet. */
 #include <stdio.h>
 #include <stdlib.h>
 #include <string.h>
 
 #include "am9517.h"
 
-enum { BODY = 48, ARRAY = 65537, MOST = 70000, LINE = 200002, FRONT = 8 };
+enum { BODY = 48, ARRAY = 65537, MOST = 70000, LINE = 200002, GUARD = 8 };
 
-static uint8_t cell[FRONT + AM9517_STATE_SIZE];
-static uint8_t *const state = cell + FRONT;
+static struct {
+    uint8_t front[GUARD];
+    am9517_chip chip;
+    uint8_t back[GUARD];
+} cell;
+static am9517_chip *const chip = &cell.chip;
 static uint8_t memory[ARRAY];
 static uint8_t queue[MOST];
 static uint8_t room[MOST];
 static uint8_t given[LINE / 2];
 static uint8_t slice[MOST];
 static size_t lent = 65536, queued, room_size, position, given_size;
-static unsigned front;
 
 /* ---- answers */
 
@@ -51,14 +54,11 @@ static void say_bytes(const char *word, const uint8_t *from, size_t n)
     fwrite(text, 1, at, stdout);
 }
 
-/* A refused operation on the state: its 14 is the console's 1. */
 static int refused(uint32_t number)
 {
     if (number == AM9517_OK)
         return 0;
-    if (9 <= number && number <= 13)
-        fail("a sealed state is refused");
-    printf("refused %u\n", number == AM9517_RANGE ? 1u : (unsigned)number);
+    printf("refused %u\n", (unsigned)number);
     return 1;
 }
 
@@ -68,36 +68,78 @@ static void done(uint32_t number)
         say("ok\n");
 }
 
-/* ---- the state and what is around it */
+/* ---- the chip and what is around it */
 
-#define LENT (state - front), (AM9517_STATE_SIZE + front)
-
-static void seal(void)
+/* The twelve fields behind the channels, in the order of the sheet's body. */
+static uint8_t *field(am9517_chip *c, int i)
 {
-    unsigned sum = 0;
-    for (int i = 0; i < BODY; i++)
-        sum += state[i];
-    const uint8_t trailer[8] = {1, 0, BODY, 0, (uint8_t)(sum & 255), (uint8_t)(sum >> 8), 0x44, 0x4d};
-    memcpy(state + BODY, trailer, sizeof trailer);
+    uint8_t *const fields[12] = {&c->command, &c->tc, &c->request, &c->mask, &c->temporary, &c->flip_flop,
+                                 &c->pins, &c->lowest, &c->in_service, &c->serving, &c->latch_full, &c->latch};
+    return fields[i];
 }
 
-/* What the calls for display say, held to what the operations say of a copy. */
+static uint16_t *word_of(am9517_channel *c, int i)
+{
+    uint16_t *const fields[4] = {&c->base_address, &c->address, &c->base_count, &c->count};
+    return fields[i];
+}
+
+static void set_body(am9517_chip *c, const uint8_t *body)
+{
+    for (int n = 0; n < 4; n++) {
+        for (int i = 0; i < 4; i++)
+            *word_of(&c->channels[n], i) = (uint16_t)(body[9 * n + 2 * i] + 256 * body[9 * n + 2 * i + 1]);
+        c->channels[n].mode = body[9 * n + 8];
+    }
+    for (int i = 0; i < 12; i++)
+        *field(c, i) = body[36 + i];
+}
+
+static void get_body(am9517_chip *c, uint8_t *body)
+{
+    for (int n = 0; n < 4; n++) {
+        for (int i = 0; i < 4; i++) {
+            body[9 * n + 2 * i] = (uint8_t)(*word_of(&c->channels[n], i) & 255);
+            body[9 * n + 2 * i + 1] = (uint8_t)(*word_of(&c->channels[n], i) >> 8);
+        }
+        body[9 * n + 8] = c->channels[n].mode;
+    }
+    for (int i = 0; i < 12; i++)
+        body[36 + i] = *field(c, i);
+}
+
+/* The chip's sheet has its fields in their places, and gives it back. */
+static void look_at_sheet(void)
+{
+    uint8_t sheet[AM9517_SHEET_SIZE], mine[BODY], theirs[BODY];
+    am9517_chip copy = am9517_fresh();
+    get_body(chip, mine);
+    if (am9517_save(chip, sheet, sizeof sheet) != AM9517_OK || memcmp(sheet, mine, BODY) != 0)
+        fail("the sheet is not the chip's");
+    if (am9517_load(&copy, sheet, sizeof sheet) != AM9517_OK)
+        fail("the chip's sheet is refused");
+    get_body(&copy, theirs);
+    if (memcmp(mine, theirs, BODY) != 0)
+        fail("the chip is another out of its sheet");
+}
+
+/* What the looking calls say, held to what the operations say of a copy. */
 static void look(void)
 {
-    uint8_t copy[AM9517_STATE_SIZE];
-    const uint32_t wrong = am9517_check(LENT);
-    const am9517_told entitled = am9517_entitled(LENT), status = am9517_status(LENT);
+    const uint32_t wrong = am9517_check(chip);
+    const am9517_told entitled = am9517_entitled(chip), status = am9517_status(chip);
     if (entitled.refusal != wrong || status.refusal != wrong)
-        fail("two calls see different states");
-    if (wrong != AM9517_OK && wrong != AM9517_RANGE)
-        fail("the state isn't sealed");
-    if (wrong != AM9517_OK || state[44] != 0)
+        fail("two calls see different chips");
+    if (wrong != AM9517_OK)
         return;
-    memcpy(copy, state, sizeof copy);
-    if (am9517_read(copy, sizeof copy, 8).value != status.value)
+    look_at_sheet();
+    if (chip->in_service)
+        return;
+    am9517_chip copy = *chip;
+    if (am9517_read(&copy, 8).value != status.value)
         fail("status and register 8 differ");
-    memcpy(copy, state, sizeof copy);
-    const am9517_told grant = am9517_grant(copy, sizeof copy);
+    copy = *chip;
+    const am9517_told grant = am9517_grant(&copy);
     if ((grant.refusal == AM9517_NOBODY) != (entitled.value == 0))
         fail("entitled and grant differ");
     if (grant.refusal == AM9517_OK && !(entitled.value >> grant.value & 1))
@@ -106,10 +148,9 @@ static void look(void)
 
 static void guard(void)
 {
-    for (int i = 0; i < FRONT; i++)
-        if (cell[i] != 0xc3)
-            fail("bytes in front of the state were touched");
-    front = (front + 1) % (FRONT + 1);
+    for (int i = 0; i < GUARD; i++)
+        if (cell.front[i] != 0xc3 || cell.back[i] != 0xc3)
+            fail("bytes about the chip were touched");
 }
 
 /* ---- words and numbers */
@@ -196,8 +237,7 @@ static int command_state(void)
 {
     if (!hex(words[1]) || given_size != BODY)
         return 0;
-    memcpy(state, given, BODY);
-    seal();
+    set_body(chip, given);
     say("ok\n");
     return 1;
 }
@@ -207,7 +247,7 @@ static int command_write(void)
     uint64_t reg, byte;
     if (!small(1, WORD, &reg) || !small(2, 255, &byte))
         return 0;
-    done(am9517_write(LENT, (uint32_t)reg, (uint8_t)byte));
+    done(am9517_write(chip, (uint32_t)reg, (uint8_t)byte));
     return 1;
 }
 
@@ -216,7 +256,7 @@ static int command_read(void)
     uint64_t reg;
     if (!small(1, WORD, &reg))
         return 0;
-    const am9517_told told = am9517_read(LENT, (uint32_t)reg);
+    const am9517_told told = am9517_read(chip, (uint32_t)reg);
     if (!refused(told.refusal))
         printf("byte 0x%02x\n", (unsigned)told.value);
     return 1;
@@ -227,13 +267,13 @@ static int command_pins(void)
     uint64_t levels;
     if (!small(1, WORD, &levels))
         return 0;
-    done(am9517_pins(LENT, (uint32_t)levels));
+    done(am9517_pins(chip, (uint32_t)levels));
     return 1;
 }
 
 static int command_grant(void)
 {
-    const am9517_told told = am9517_grant(LENT);
+    const am9517_told told = am9517_grant(chip);
     if (!refused(told.refusal))
         printf("channel %u\n", (unsigned)told.value);
     return 1;
@@ -308,8 +348,6 @@ static void account(size_t used, size_t written)
     position += written;
 }
 
-static const char *const reasons[] = {"?", "ended", "dropped", "cascade", "limit", "short", "done", "quiet"};
-
 static void say_totals(uint64_t transfers, size_t used, size_t written, uint64_t states)
 {
     printf("transfers=%lu used=%lu written=%lu states=%lu\n", (unsigned long)transfers, (unsigned long)used,
@@ -322,10 +360,10 @@ static int command_run(void)
     if (!small(1, WORD, &limit) || !small(2, WORD, &eop))
         return 0;
     const am9517_run_told told =
-        am9517_run(LENT, memory, lent, queue, queued, room + position, room_size - position, limit, eop);
+        am9517_run(chip, memory, lent, queue, queued, room + position, room_size - position, limit, eop);
     if (refused(told.refusal))
         return 1;
-    printf("%s ", reasons[told.reason & 7]);
+    printf("%s ", am9517_reason_text(told.reason));
     say_totals(told.transfers, told.used, told.written, told.states);
     account(told.used, told.written);
     return 1;
@@ -337,10 +375,10 @@ static int command_round(void)
     if (!small(1, WORD, &k))
         return 0;
     const am9517_round_told told =
-        am9517_round(LENT, memory, lent, queue, queued, room + position, room_size - position, (uint32_t)k);
+        am9517_round(chip, memory, lent, queue, queued, room + position, room_size - position, (uint32_t)k);
     if (refused(told.refusal))
         return 1;
-    printf("%s services=%u,%u,%u,%u ", reasons[told.reason & 7], (unsigned)told.services[0], (unsigned)told.services[1],
+    printf("%s services=%u,%u,%u,%u ", am9517_reason_text(told.reason), (unsigned)told.services[0], (unsigned)told.services[1],
            (unsigned)told.services[2], (unsigned)told.services[3]);
     say_totals(told.transfers, told.used, told.written, told.states);
     account(told.used, told.written);
@@ -353,10 +391,7 @@ static int command_sheet(void)
     if (!small(1, MOST, &n))
         return 0;
     memset(slice, 0xee, n);
-    const uint32_t number = am9517_copy(slice, n, LENT);
-    if (number == AM9517_SHEET_SHORT)
-        say("refused 9\n");
-    else if (!refused(number))
+    if (!refused(am9517_save(chip, slice, n)))
         say_bytes("bytes", slice, n);
     return 1;
 }
@@ -365,29 +400,52 @@ static int command_load(void)
 {
     if (!hex(words[1]))
         return 0;
-    const uint32_t number = am9517_copy(LENT, given, given_size);
-    if (number != AM9517_OK)
-        printf("refused %u\n", (unsigned)number);
-    else
-        say("ok\n");
+    done(am9517_load(chip, given, given_size));
+    return 1;
+}
+
+/* The texts of the refusals, as the console's help has them. */
+static int command_help(void)
+{
+    if (strcmp(words[1], "refusals") != 0)
+        return 0;
+    for (unsigned n = 1; n <= 14; n++)
+        printf("%2u  %s\n", n, am9517_refusal_text(n));
+    return 1;
+}
+
+static int command_show_state(void)
+{
+    uint8_t body[BODY];
+    get_body(chip, body);
+    say_bytes("state", body, BODY);
+    return 1;
+}
+
+static int command_fresh(void)
+{
+    *chip = am9517_fresh();
+    say("ok\n");
+    return 1;
+}
+
+static int command_reset(void)
+{
+    done(am9517_reset(chip));
     return 1;
 }
 
 static int obey(void)
 {
-    if (is("state", 1)) {
-        say_bytes("state", state, BODY);
-        return 1;
-    }
-    if (is("fresh", 1) || is("reset", 1)) {
-        done(is("fresh", 1) ? am9517_fresh(LENT) : am9517_reset(LENT));
-        return 1;
-    }
     if (is("peek", 3))
         return command_show(memory, ARRAY);
     if (is("out", 3))
         return command_show(room, room_size);
-    return is("state", 2)    ? command_state()
+    return is("state", 1)    ? command_show_state()
+           : is("state", 2)  ? command_state()
+           : is("fresh", 1)  ? command_fresh()
+           : is("reset", 1)  ? command_reset()
+           : is("help", 2)   ? command_help()
            : is("write", 3)  ? command_write()
            : is("read", 2)   ? command_read()
            : is("pins", 2)   ? command_pins()
@@ -423,8 +481,8 @@ int main(void)
     static char part[65536], line[LINE];
     size_t n = 0, got;
     int is_long = 0;
-    memset(cell, 0xc3, sizeof cell);
-    am9517_fresh(state, AM9517_STATE_SIZE);
+    memset(&cell, 0xc3, sizeof cell);
+    *chip = am9517_fresh();
     while ((got = fread(part, 1, sizeof part, stdin)) > 0)
         for (size_t i = 0; i < got; i++) {
             if (part[i] == '\n') {

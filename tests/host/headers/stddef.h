@@ -3,4 +3,5 @@
 #define STDDEF_H
 typedef __SIZE_TYPE__ size_t;
 #define NULL ((void *)0)
+#define offsetof(type, field) __builtin_offsetof(type, field)
 #endif

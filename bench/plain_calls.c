@@ -1,0 +1,111 @@
+/* The calls of am9517.h over the plain model, by pointer: plain_am9517_write for am9517_write, and so on. */
+#include "plain.h"
+
+#ifndef CALL
+#define CALL(name) plain_am9517_##name
+#endif
+
+static const am9517_chip FRESH = {.mask = 15, .lowest = 3};
+
+u32 CALL(version)(void) { return AM9517_VERSION; }
+
+am9517_chip CALL(fresh)(void) { return FRESH; }
+
+u32 CALL(check)(const am9517_chip *chip) { return !valid(chip); }
+
+u32 CALL(write)(am9517_chip *chip, u32 reg, u8 byte) { return write_register(chip, reg, byte) & 255; }
+
+am9517_told CALL(read)(am9517_chip *chip, u32 reg)
+{
+    u32 said = read_register(chip, reg);
+    return said < 256 ? (am9517_told){0, said} : (am9517_told){said - 256, 0};
+}
+
+u32 CALL(pins)(am9517_chip *chip, u32 levels)
+{
+    if (!valid(chip)) return 1;
+    if (levels > 15) return 2;
+    chip->pins = (u8)levels;
+    return 0;
+}
+
+u32 CALL(reset)(am9517_chip *chip)
+{
+    if (!valid(chip)) return 1;
+    master_clear(chip);
+    return 0;
+}
+
+am9517_told CALL(grant)(am9517_chip *chip)
+{
+    if (!valid(chip)) return (am9517_told){1, 0};
+    if (chip->in_service) return (am9517_told){3, 0};
+    int n = picked(chip);
+    if (n < 0) return (am9517_told){6, 0};
+    grant(chip, n);
+    return (am9517_told){0, (u32)n};
+}
+
+am9517_told CALL(entitled)(const am9517_chip *chip)
+{
+    if (!valid(chip)) return (am9517_told){1, 0};
+    u32 set = 0;
+    for (u32 n = 0; n < 4; n++) set |= (u32)entitled(chip, n) << n;
+    return (am9517_told){0, set};
+}
+
+am9517_told CALL(status)(const am9517_chip *chip)
+{
+    return valid(chip) ? (am9517_told){0, status(chip)} : (am9517_told){1, 0};
+}
+
+/* The number of a reason in am9517.h. */
+static u32 reason_number(const struct told *t) { return t->refusal ? 0 : (u32)t->why + 1; }
+
+am9517_run_told CALL(run)(am9517_chip *chip, u8 *memory, usize memory_size, const u8 *device, usize device_size, u8 *room,
+                          usize room_size, u64 limit, u64 eop_at)
+{
+    struct lent l = {memory, memory_size, device, device_size, room, room_size};
+    struct told t = run(chip, l, limit, eop_at);
+    const struct counts *n = &t.counts;
+    return (am9517_run_told){t.refusal, reason_number(&t), n->transfers, n->used, n->written, n->states};
+}
+
+am9517_round_told CALL(round)(am9517_chip *chip, u8 *memory, usize memory_size, const u8 *device, usize device_size, u8 *room,
+                              usize room_size, u32 k)
+{
+    struct lent l = {memory, memory_size, device, device_size, room, room_size};
+    struct told t = round_of(chip, l, k);
+    const struct counts *n = &t.counts;
+    const u32 *s = t.services;
+    return (am9517_round_told){t.refusal, reason_number(&t), {s[0], s[1], s[2], s[3]}, n->transfers, n->used, n->written, n->states};
+}
+
+u32 CALL(save)(const am9517_chip *chip, u8 *sheet, usize size)
+{
+    if (!valid(chip)) return 1;
+    if (size < AM9517_SHEET_SIZE) return 9;
+    write_sheet(chip, sheet + size - AM9517_SHEET_SIZE);
+    return 0;
+}
+
+static u32 load_refusal(const u8 *sheet)
+{
+    const u8 *t = sheet + 48;
+    if (t[6] != 0x44 || t[7] != 0x4d) return 10;
+    if (t[0] != 1 || t[1] != 0) return 11;
+    if (t[2] != 48 || t[3] != 0) return 12;
+    return word(t + 4) != sum_of(sheet) ? 13 : 0;
+}
+
+u32 CALL(load)(am9517_chip *chip, const u8 *sheet, usize size)
+{
+    if (size < AM9517_SHEET_SIZE) return 9;
+    const u8 *last = sheet + size - AM9517_SHEET_SIZE;
+    u32 no = load_refusal(last);
+    if (no != 0) return no;
+    am9517_chip told = fields_in(last);
+    if (!valid(&told)) return 14;
+    *chip = told;
+    return 0;
+}

@@ -1,0 +1,43 @@
+"""The hold table of the night boat (see host.c) from Python, by ctypes: am9517.py [SHARED LIBRARY]. It prints what host.c prints.
+
+The structs are those of am9517.h, field by field; any other language that can call C takes the same steps."""
+import ctypes
+import sys
+from ctypes import POINTER, byref, c_char_p, c_size_t, c_uint8, c_uint16, c_uint32, c_uint64
+
+
+def struct(name, fields):
+    return type(name, (ctypes.Structure,), {"_fields_": fields})
+
+
+NAMES = "tc request mask pins in_service serving latch_full latch flip_flop lowest temporary command"
+REASONS = "refused ended dropped cascade limit short done quiet".split()
+Channel = struct("Channel", [*((n, c_uint16) for n in ("base_address", "address", "base_count", "count")), ("mode", c_uint8)])
+Chip = struct("Chip", [("channels", Channel * 4), *((n, c_uint8) for n in NAMES.split())])
+Told = struct("Told", [("refusal", c_uint32), ("value", c_uint32)])
+Ran = struct("Ran", [("refusal", c_uint32), ("reason", c_uint32), ("transfers", c_uint64), ("used", c_size_t), ("written", c_size_t), ("states", c_uint64)])
+AREA = [c_char_p, c_size_t]
+CALLS = {"version": (c_uint32, []), "fresh": (Chip, []), "write": (c_uint32, [POINTER(Chip), c_uint32, c_uint8]),
+         "pins": (c_uint32, [POINTER(Chip), c_uint32]), "grant": (Told, [POINTER(Chip)]), "status": (Told, [POINTER(Chip)]),
+         "run": (Ran, [POINTER(Chip), *AREA, *AREA, *AREA, c_uint64, c_uint64])}
+
+
+def main(path="libam9517.so.2"):
+    library = ctypes.CDLL(path)
+    call = {name: ctypes.CFUNCTYPE(result, *arguments)(("am9517_" + name, library)) for name, (result, arguments) in CALLS.items()}
+    assert call["version"]() // 10000 == 2 and ctypes.sizeof(Chip) == 52
+    chip, memory, holds = call["fresh"](), ctypes.create_string_buffer(65536), bytes([1, 1, 0, 1, 1, 0, 0, 1, 1, 0, 1, 0xA7])
+    for register, byte in [(0xD, 0), (0xB, 0x85), (0xC, 0), (2, 0), (2, 2), (3, 11), (3, 0), (0xA, 1)]:
+        assert call["write"](byref(chip), register, byte) == 0
+    assert call["pins"](byref(chip), 2) == 0
+    grant = call["grant"](byref(chip))
+    run = call["run"](byref(chip), memory, len(memory), holds, len(holds), None, 0, 65536, 0)
+    assert grant.refusal == 0 and run.refusal == 0
+    print("channel", grant.value)
+    print(f"{REASONS[run.reason]} transfers={run.transfers} used={run.used} states={run.states}")
+    print("memory at 0200h:", memory.raw[0x200:0x20C].hex(" "))
+    print(f"count of channel 1 {chip.channels[1].count:04x}, status {call['status'](byref(chip)).value:02x}")
+
+
+if __name__ == "__main__":
+    main(*sys.argv[1:2])

@@ -1,0 +1,142 @@
+// The C++ wrapper: spans out of everything that lends bytes, results of every method, refusals and texts.
+#include <cstdio>
+#include <cstring>
+#include <string>
+#include <type_traits>
+#include <vector>
+#if __cplusplus >= 202002L
+#include <span>
+#endif
+
+#include "am9517.hpp"
+
+using am9517::Bytes;
+using am9517::Chip;
+using am9517::ConstBytes;
+using am9517::Reason;
+using am9517::Refusal;
+
+static_assert(sizeof(Chip) == sizeof(am9517_chip) && std::is_trivially_copyable_v<Chip>, "a Chip is the struct");
+static_assert(!std::is_convertible_v<const std::vector<std::uint8_t> &, Bytes>, "constant bytes are not lent to be changed");
+static_assert(!std::is_convertible_v<std::vector<int> &, Bytes>, "ints are no bytes");
+static_assert(std::is_convertible_v<Bytes, ConstBytes> && !std::is_convertible_v<ConstBytes, Bytes>, "one way");
+static_assert(noexcept(std::declval<Chip &>().run({}, {}, {})) && noexcept(Chip()), "nothing throws");
+
+static unsigned checks, wrong;
+
+static void expect(bool holds, const char *what)
+{
+    checks++;
+    if (!holds) {
+        wrong++;
+        std::printf("wrapper: %s\n", what);
+    }
+}
+
+static void spans()
+{
+    std::vector<std::uint8_t> vector(7);
+    const std::vector<std::uint8_t> constant(3);
+    std::array<std::uint8_t, 5> array{};
+    std::uint8_t plain[4] = {};
+    expect(Bytes(vector).data() == vector.data() && Bytes(vector).size() == 7, "of a vector");
+    expect(ConstBytes(constant).data() == constant.data() && ConstBytes(constant).size() == 3, "of a constant vector");
+    expect(Bytes(array).size() == 5 && ConstBytes(array).data() == array.data(), "of std::array");
+    expect(Bytes(plain).size() == 4 && ConstBytes(plain).data() == plain, "of an array");
+    expect(Bytes(plain, 2).size() == 2 && Bytes().empty() && Bytes().data() == nullptr, "of a pointer, of nothing");
+    expect(Bytes(vector).after(3).data() == vector.data() + 3 && Bytes(vector).after(3).size() == 4, "behind three");
+    expect(Bytes(vector).after(7).empty() && Bytes(vector).after(70).empty(), "behind all");
+#if __cplusplus >= 202002L
+    expect(Bytes(std::span<std::uint8_t>(vector)).size() == 7, "of std::span");
+#endif
+}
+
+static void registers()
+{
+    Chip chip;
+    expect(chip.check().ok() && chip.fields().mask == 15 && chip == Chip(), "fresh");
+    expect(chip.write(16, 0).refusal() == Refusal::number && chip == Chip(), "write of 16");
+    expect(chip.write(14, 0).refusal() == Refusal::wrong_register, "write of E");
+    expect(chip.write(11, 12).refusal() == Refusal::mode, "mode 0Ch");
+    expect(chip.pins(16).refusal() == Refusal::number, "pins 16");
+    const auto nobody = chip.grant();
+    expect(!nobody && nobody.refusal() == Refusal::nobody && nobody.value() == 0 && nobody.value_or(9) == 9, "nobody");
+    expect(std::strcmp(nobody.text(), "grant with no entitled channel") == 0, "its text");
+    expect(chip.write(2, 0x34).ok() && chip.write(2, 0x12).ok() && chip != Chip(), "address");
+    expect(chip.fields().channels[1].address == 0x1234, "its field");
+    expect(chip.read(2).value() == 0x34 && *chip.read(2) == 0x12, "address read");
+    expect(chip.read(15).refusal() == Refusal::wrong_register, "read of F");
+    expect(chip.write(15, 13).ok() && chip.pins(2).ok(), "line 1");
+    expect(chip.entitled().value() == 2 && chip.status().value() == 0x20, "entitled, status");
+    const Chip copy = chip;
+    expect(chip.grant().value() == 1 && chip.fields().serving == 1 && copy.fields().in_service == 0, "a copy is its own");
+    expect(chip.read(0).refusal() == Refusal::in_service && chip.reset().ok() && chip.fields().in_service == 0, "reset");
+    chip.fields().lowest = 4;
+    expect(chip.check().refusal() == Refusal::state_range && chip.write(0, 0).refusal() == Refusal::state_range, "out of range");
+    expect(chip.sheet().refusal() == Refusal::state_range && Chip(copy.fields()) == copy, "no sheet of it");
+}
+
+// Channel 0 moves a block of four bytes, its service open.
+static Chip opened(std::uint8_t mode)
+{
+    Chip chip;
+    const bool good = chip.write(11, mode).ok() && chip.write(1, 3).ok() && chip.write(1, 0).ok() && chip.write(9, 4).ok();
+    expect(good && chip.grant().ok(), "open");
+    return chip;
+}
+
+static void runs()
+{
+    static am9517::Memory memory;
+    const std::vector<std::uint8_t> device{0x11, 0x22, 0x33, 0x44};
+    Chip chip = opened(0x84);
+    expect(chip.run({}, device, {}).refusal() == Refusal::memory, "no memory");
+    const auto first = chip.run(memory, ConstBytes(device.data(), 3), {}, 2);
+    expect(first.ok() && first->reason == Reason::limit && first->used == 2 && first->states == 7, "two bytes");
+    const am9517::Sheet sheet = chip.sheet().value();
+    Chip next;
+    expect(next.load(sheet).ok() && next == chip, "out of its sheet");
+    const auto rest = next.run(memory, ConstBytes(device).after(first->used), {});
+    expect(rest->reason == Reason::ended && rest->transfers == 2 && std::memcmp(memory.data(), device.data(), 4) == 0, "gone on with");
+    expect(std::strcmp(am9517::text(rest->reason), "ended") == 0, "a reason's text");
+    const auto none = next.run(memory, device, {});
+    expect(none.refusal() == Refusal::no_service && none->reason == Reason::refused && none->transfers == 0, "none open");
+    Chip reader = opened(0x88);
+    std::vector<std::uint8_t> room(6, 0xee);
+    const auto out = reader.run(memory, {}, room, am9517::no_limit, 3);
+    expect(out->written == 3 && room[2] == 0x33 && room[3] == 0xee, "EOP at 3");
+}
+
+static void rounds()
+{
+    static am9517::Memory memory;
+    const std::uint8_t device[] = {1, 2, 3};
+    Chip chip;
+    expect(chip.write(11, 0x45).ok() && chip.write(3, 9).ok() && chip.write(3, 0).ok() && chip.write(15, 13).ok(), "set up");
+    expect(chip.pins(2).ok() && chip.round(memory, device, {}, 4097).refusal() == Refusal::number, "k 4,097");
+    const auto round = chip.round(memory, device, {}, 2);
+    expect(round.ok() && round->reason == Reason::done && round->services[1] == 2 && round->used == 2, "two services");
+}
+
+static void sheets()
+{
+    Chip chip;
+    std::vector<std::uint8_t> record(60, 0xdd);
+    expect(chip.save(Bytes(record.data(), 55)).refusal() == Refusal::sheet_short, "55 bytes");
+    expect(chip.save(record).ok() && record[3] == 0xdd && record[4] == 0 && record[59] == 0x4d, "at the end of a record");
+    expect(chip.load(record).ok(), "and back");
+    record[59] = 0;
+    expect(chip.load(record).refusal() == Refusal::end_mark && chip == Chip(), "end mark");
+    expect(am9517::version() == AM9517_VERSION && am9517::number_of(Refusal::range) == 14 && am9517::number_of(Reason::quiet) == 7, "numbers");
+}
+
+int main()
+{
+    spans();
+    registers();
+    runs();
+    rounds();
+    sheets();
+    std::printf("%u checks of the wrapper, %u wrong\n", checks, wrong);
+    return wrong != 0;
+}
