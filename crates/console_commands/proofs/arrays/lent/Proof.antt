@@ -1,8 +1,8 @@
 use mathlib.Core.Path.{ap}
-use Rattle.console_commands.specs.Holding.{withLent}
+use Rattle.console_commands.specs.Needs.{withLent}
 use borrow.Author.Needs.{needs}
-use Rattle.console_commands.proofs.device.lent.Statement.{statement}
-use Rattle.console_commands.proofs.device.lent.Tie as tie
+use Rattle.console_commands.proofs.arrays.lent.Statement.{statement}
+use Rattle.console_commands.proofs.arrays.lent.Tie as tie
 
 returns : tie.Need-returns
 returns c =
