@@ -1,10 +1,10 @@
 -- A script's lines, and what each does: "one a line", "the last line may lack its newline".
-use Prim.Native.Nat.{ℕ, _+_}
+use Prim.Native.Nat.{ℕ, _+_, _≤_}
 use mathlib.Core.Path.{_≡_}
 use mathlib.Core.Bool.{Bool, true, false}
 use mathlib.Core.List.{List, [], _∷_, _++_}
 use lib.Dec.{eqb, ltb}
-use lib.ListN.{length, take}
+use lib.ListN.{length, take, drop}
 use Rattle.words.specs.Choice.{when}
 use Rattle.console_text.specs.Text.{codes, Page, page, putByte}
 use Rattle.console_text.specs.Lines.{endOf, saidIn}
@@ -78,16 +78,6 @@ module _ (tells : ℕ → List ℕ) where
   partsDo w [] = w
   partsDo w (part ∷ parts) = partsDo (partDoes w part) parts
 
-unfoldable pub joined : List (List ℕ) → List ℕ
-joined [] = []
-joined (part ∷ parts) = part ++ joined parts
-
--- A script that comes in any parts, with a newline behind the last of them, does what its lines do.
-abbrev pub ScriptInParts : Type 0
-ScriptInParts =
-    (tells : ℕ → List ℕ) (h : Held) (parts : List (List ℕ))
-    → comesTo (partDoes tells (partsDo tells (before h) parts) (codes "\n")) ≡ linesDo tells 0 (linesOf (joined parts)) h
-
 -- What is seen when characters are gathered: the page that the line stands on, the place behind the last one taken, and
 -- whether that was a newline.
 pub record Gathered : Type 0 where
@@ -103,3 +93,29 @@ unfoldable pub gatherFrom : Page → List ℕ → ℕ → Gathered
 gatherFrom p [] taken = record { page = p; taken = taken; ended = false }
 gatherFrom p (b ∷ bs) taken =
     when (eqb b 10) (record { page = p; taken = taken + 1; ended = true }) (gatherFrom (putByte p b) bs (taken + 1))
+
+-- what stands on the page that a line is gathered on
+abbrev pub lineOn : Page → List ℕ
+lineOn p = take (p .at) (p .bytes)
+
+-- `gather` and `answer` in turn: the characters up to a newline are kept, the line is answered, and the rest comes next
+abbrev pub inTurn : (ℕ → List ℕ) → Way → Gathered → List ℕ → Way
+inTurn tells w g rest =
+    let x : Way = record { line = lineOn (g .page); count = w .count; holding = w .holding; text = w .text } in
+    when (g .ended) (partDoes tells (answering x (answerOf (x .line) true (x .holding) (tells (x .count)))) rest) x
+
+unfoldable pub joined : List (List ℕ) → List ℕ
+joined [] = []
+joined (part ∷ parts) = part ++ joined parts
+
+-- A script that comes in any parts, with a newline behind the last of them, does what its lines do.
+abbrev pub ScriptInParts : Type 0
+ScriptInParts =
+    (tells : ℕ → List ℕ) (h : Held) (parts : List (List ℕ))
+    → comesTo (partDoes tells (partsDo tells (before h) parts) (codes "\n")) ≡ linesDo tells 0 (linesOf (joined parts)) h
+
+-- A line that is gathered on an array of 200,002 bytes and then answered is what a part does up to its first newline.
+abbrev pub GatherThenAnswer : Type 0
+GatherThenAnswer =
+    (tells : ℕ → List ℕ) (w : Way) (p : Page) (part : List ℕ) (from : ℕ) → w .line ≡ lineOn p → length (p .bytes) ≡ 200002 → p .at ≤ 200002
+    → let g = gatherFrom p (drop from part) from in partDoes tells w (drop from part) ≡ inTurn tells w g (drop (g .taken) part)
