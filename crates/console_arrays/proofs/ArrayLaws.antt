@@ -12,7 +12,7 @@ use borrow.Author.Tests.{leb-true, leb-false, le-leb, lt-leb}
 use Rattle.words.specs.Choice.{when}
 use Rattle.console_text.specs.Text.{Page, page, put}
 use Rattle.console_chip.specs.Answers.{okText, errorText}
-use Rattle.console_arrays.specs.Arrays.{changed, held, appended}
+use Rattle.console_arrays.specs.Arrays.{shown, showing, held, appended}
 use Rattle.console_text.proofs.TextLaws.{put-room}
 
 -- Two ways to test that n more have room behind a.
@@ -47,7 +47,7 @@ front-end q now from n h e =
     rw e (ap (λ (k : ℕ). take k (paste q 0 (drop from q) n)) (sym none) ∙ take-paste q 0 (drop from q) n (omega arith) (omega (arith, length-drop from q)))
 
 -- what a queue holds, without what is behind it
-held-front : (q : List ℕ) (from to : ℕ) → from ≤ to → to ≤ length q → drop from (take to q) ≡ held q from to
+pub held-front : (q : List ℕ) (from to : ℕ) → from ≤ to → to ≤ length q → drop from (take to q) ≡ held q from to
 held-front q from to h l =
     let size = length-take-le to q l in
     let part : drop from q ≡ drop from (take to q) ++ drop to q =
@@ -76,11 +76,11 @@ held-put q bs ys from to r h l e =
 
 -- the queue behind an append, and one that had no place
 module _ (q bs : List ℕ) (p out : Page) where
-  pub append-done : (new : List ℕ) → leb (length q + length bs) 70000 ≡ true → new ≡ q ++ bs → out ≡ put p okText → changed new out ≡ appended q p bs
+  pub append-done : (new : List ℕ) → leb (length q + length bs) 70000 ≡ true → new ≡ q ++ bs → out ≡ put p okText → shown new out ≡ showing p (appended q bs)
   unfolding appended when
   append-done new t e o = rw (t, e, o)
 
-  pub append-not : leb (length q + length bs) 70000 ≡ false → out ≡ put p errorText → changed q out ≡ appended q p bs
+  pub append-not : leb (length q + length bs) 70000 ≡ false → out ≡ put p errorText → shown q out ≡ showing p (appended q bs)
   unfolding appended when
   append-not t o = rw (t, o)
 
@@ -89,13 +89,13 @@ module _ (q bs : List ℕ) (from to n : ℕ) (p out : Page) (inside : to ≤ len
   sum-test : leb (length (held q from to) + length bs) 70000 ≡ leb (to - from + n) 70000
   sum-test = let e : length (held q from to) + length bs ≡ to - from + n = omega (arith, held-length q from to inside) in ap (λ (k : ℕ). leb k 70000) e
 
-  pub queue-full : leb (to - from + n) 70000 ≡ false → out ≡ put p errorText → changed (held q from to) out ≡ appended (held q from to) p bs
+  pub queue-full : leb (to - from + n) 70000 ≡ false → out ≡ put p errorText → shown (held q from to) out ≡ showing p (appended (held q from to) bs)
   queue-full t o = append-not (held q from to) bs p out (sum-test ∙ t) o
 
   pub queue-grown : (moved ys : List ℕ) (start r : ℕ) → leb (to - from + n) 70000 ≡ true
       → held moved start (start + (to - from)) ≡ held q from to → start + (to - from) + n ≤ length moved
       → page ys r ≡ put (page moved (start + (to - from))) bs → out ≡ put p okText
-      → changed (held ys start (start + (to - from) + n)) out ≡ appended (held q from to) p bs
+      → shown (held ys start (start + (to - from) + n)) out ≡ showing p (appended (held q from to) bs)
   queue-grown moved ys start r t kept room e o =
       let end = start + (to - from) in
       let grown : held ys start (end + length bs) ≡ held moved start end ++ bs = held-put moved bs ys start end r (omega arith) (omega arith) e in

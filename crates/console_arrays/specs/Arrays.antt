@@ -31,50 +31,59 @@ peekText array place count =
 unfoldable pub hasPlace : ℕ → ℕ → List ℕ → Bool
 hasPlace size a digits = isBytes digits and leb (a + length digits / 2) size
 
--- An array after a command, and the page with the answer.
+-- What a command does to an array, and its answer.
 pub record Changed : Type 0 where
+  pub array : List ℕ
+  pub text : List ℕ
+
+abbrev pub changed : List ℕ → List ℕ → Changed
+changed a t = record { array = a; text = t }
+
+-- What is seen of it: the array, and the page with the answer.
+pub record Shown : Type 0 where
   pub array : List ℕ
   pub page : Page
 
-abbrev pub changed : List ℕ → Page → Changed
-changed a p = record { array = a; page = p }
+abbrev pub shown : List ℕ → Page → Shown
+shown a p = record { array = a; page = p }
+
+abbrev pub showing : Page → Changed → Shown
+showing p c = shown (c .array) (put p (c .text))
 
 -- done or not: the array with the bytes from place a on and "ok", or as it was and "error"
-unfoldable pub pokedAt : List ℕ → Page → List ℕ → ℕ → Changed
-pokedAt array p digits a =
+unfoldable pub pokedAt : List ℕ → List ℕ → ℕ → Changed
+pokedAt array digits a =
     when (hasPlace (length array) a digits)
-    (changed (put (page array a) (bytesIn digits) .bytes) (put p okText))
-    (changed array (put p errorText))
+    (changed (put (page array a) (bytesIn digits) .bytes) okText)
+    (changed array errorText)
 
-abbrev pub pokeOf : List ℕ → Page → List ℕ → List ℕ → Changed
-pokeOf array p place digits =
-    numbered (numberOf wordMost place) (pokedAt array p digits) (changed array (put p errorText))
+abbrev pub pokeOf : List ℕ → List ℕ → List ℕ → Changed
+pokeOf array place digits = numbered (numberOf wordMost place) (pokedAt array digits) (changed array errorText)
 
 -- The bytes that an array holds from one place up to another: the device's queue.
 abbrev pub held : List ℕ → ℕ → ℕ → List ℕ
 held array from to = take (to - from) (drop from array)
 
 -- "appended to the queue; more than 70,000 in all: error, nothing appended"
-unfoldable pub appended : List ℕ → Page → List ℕ → Changed
-appended queue p bytes =
-    when (leb (length queue + length bytes) 70000) (changed (queue ++ bytes) (put p okText)) (changed queue (put p errorText))
+unfoldable pub appended : List ℕ → List ℕ → Changed
+appended queue bytes = when (leb (length queue + length bytes) 70000) (changed (queue ++ bytes) okText) (changed queue errorText)
 
-unfoldable pub feedOf : List ℕ → Page → List ℕ → Changed
-feedOf queue p digits = when (isBytes digits) (appended queue p (bytesIn digits)) (changed queue (put p errorText))
+unfoldable pub feedOf : List ℕ → List ℕ → Changed
+feedOf queue digits = when (isBytes digits) (appended queue (bytesIn digits)) (changed queue errorText)
 
 -- "N copies of BYTE appended to the queue"
-abbrev pub fillOf : List ℕ → Page → List ℕ → List ℕ → Changed
-fillOf queue p count byte =
+abbrev pub fillOf : List ℕ → List ℕ → List ℕ → Changed
+fillOf queue count byte =
     numbered (numberOf wordMost count)
-    (λ (n : ℕ). numbered (numberOf 255 byte) (λ (b : ℕ). appended queue p (replicate n b)) (changed queue (put p errorText)))
-    (changed queue (put p errorText))
+    (λ (n : ℕ). numbered (numberOf 255 byte) (λ (b : ℕ). appended queue (replicate n b)) (changed queue errorText))
+    (changed queue errorText)
 
 -- "the room is now N bytes, each equal to BYTE"
-abbrev pub roomOf : List ℕ → Page → List ℕ → List ℕ → Changed
-roomOf room p count byte =
+abbrev pub roomOf : List ℕ → List ℕ → List ℕ → Changed
+roomOf room count byte =
     numbered (numberOf 70000 count)
-    (λ (n : ℕ). numbered (numberOf 255 byte) (λ (b : ℕ). changed (replicate n b) (put p okText)) (changed room (put p errorText)))
-    (changed room (put p errorText))
+    (λ (n : ℕ). numbered (numberOf 255 byte) (λ (b : ℕ). changed (replicate n b) okText) (changed room errorText))
+    (changed room errorText)
 
 -- "write position 0": of the room that is made; an error leaves the position
 abbrev pub positionOf : ℕ → List ℕ → List ℕ → ℕ
@@ -83,13 +92,13 @@ positionOf written count byte =
 
 -- A part of an array after a command that changes it: the queue from one place up to another, or the room with its write
 -- position; it holds what the command says, and the page has the answer.
-pub record Queued (r : Part) (array out : List ℕ) (c : Changed) : Type 0 where
-  pub holds : changed (held array (r .from) (r .to)) (page out (r .at)) ≡ c
+pub record Queued (r : Part) (array out : List ℕ) (c : Shown) : Type 0 where
+  pub holds : shown (held array (r .from) (r .to)) (page out (r .at)) ≡ c
   pub ordered : r .from ≤ r .to
   pub inside : r .to ≤ length array
 
-pub record Roomed (r : Part) (array out : List ℕ) (c : Changed) (position : ℕ) : Type 0 where
-  pub holds : changed (take (r .to) array) (page out (r .at)) ≡ c
+pub record Roomed (r : Part) (array out : List ℕ) (c : Shown) (position : ℕ) : Type 0 where
+  pub holds : shown (take (r .to) array) (page out (r .at)) ≡ c
   pub behind : r .from ≡ position
   pub ordered : r .from ≤ r .to
   pub inside : r .to ≤ length array

@@ -56,8 +56,17 @@ servicesText s =
     ++ codes ","
     ++ decimalText (getD s 3 0)
 
--- What a service leaves: the next controller, the device bytes used and written, the lent memory and room, and the page.
+-- What a service leaves: the next controller, the device bytes used and written, the lent memory and room, and its answer.
 pub record Service : Type 0 where
+  pub controller : Controller
+  pub used : ℕ
+  pub written : ℕ
+  pub memory : List ℕ
+  pub room : List ℕ
+  pub text : List ℕ
+
+-- What is seen of it: the same, with the page that the answer stands on.
+pub record Seen : Type 0 where
   pub controller : Controller
   pub used : ℕ
   pub written : ℕ
@@ -65,49 +74,59 @@ pub record Service : Type 0 where
   pub room : List ℕ
   pub page : Page
 
-abbrev pub served : Served → List ℕ → List ℕ → List ℕ → Service
+abbrev pub served : Served → List ℕ → List ℕ → List ℕ → Seen
 served r m room out =
     record { controller = r .controller; used = r .used; written = r .written; memory = m; room = room; page = page out (r .at) }
 
+abbrev pub serving : Page → Service → Seen
+serving p s =
+    record {
+      controller = s .controller;
+      used = s .used;
+      written = s .written;
+      memory = s .memory;
+      room = s .room;
+      page = put p (s .text);
+    }
+
 -- "error, nothing changed"
-abbrev pub unserved : Controller → List ℕ → List ℕ → Page → Service
-unserved c m room p = record { controller = c; used = 0; written = 0; memory = m; room = room; page = put p errorText }
+abbrev pub unserved : Controller → List ℕ → List ℕ → Service
+unserved c m room = record { controller = c; used = 0; written = 0; memory = m; room = room; text = errorText }
 
 abbrev pub ranText : Ran → List ℕ
 ranText r = runText (r .answer) (countsText (r .counts))
 
-unfoldable pub runService : Page → Given → Service
-runService p g =
+unfoldable pub runService : Given → Service
+runService g =
     record {
       controller = g .ran .controller;
       used = g .ran .counts .used;
       written = g .ran .counts .written;
       memory = g .memory;
       room = g .room;
-      page = put p (ranText (g .ran));
+      text = ranText (g .ran);
     }
 
-abbrev pub runReply : Controller → List ℕ → List ℕ → List ℕ → Page → List ℕ → List ℕ → Service
-runReply c m device room p limit eop =
+abbrev pub runReply : Controller → List ℕ → List ℕ → List ℕ → List ℕ → List ℕ → Service
+runReply c m device room limit eop =
     numbered (numberOf wordMost limit)
-    (λ (l : ℕ). numbered (numberOf wordMost eop) (λ (e : ℕ). runService p (ranOf c m device room l e)) (unserved c m room p))
-    (unserved c m room p)
+    (λ (l : ℕ). numbered (numberOf wordMost eop) (λ (e : ℕ). runService (ranOf c m device room l e)) (unserved c m room))
+    (unserved c m room)
 
 abbrev pub roundedText : Rounded → List ℕ
-roundedText r =
-    roundText (r .answer) (servicesText (r .services) ++ countsText (r .totals))
+roundedText r = roundText (r .answer) (servicesText (r .services) ++ countsText (r .totals))
 
-unfoldable pub roundService : Page → RoundGiven → Service
-roundService p g =
+unfoldable pub roundService : RoundGiven → Service
+roundService g =
     record {
       controller = g .rounded .controller;
       used = g .rounded .totals .used;
       written = g .rounded .totals .written;
       memory = g .memory;
       room = g .room;
-      page = put p (roundedText (g .rounded));
+      text = roundedText (g .rounded);
     }
 
-abbrev pub roundReply : Controller → List ℕ → List ℕ → List ℕ → Page → List ℕ → Service
-roundReply c m device room p count =
-    numbered (numberOf wordMost count) (λ (k : ℕ). roundService p (roundedOf c m device room k)) (unserved c m room p)
+abbrev pub roundReply : Controller → List ℕ → List ℕ → List ℕ → List ℕ → Service
+roundReply c m device room count =
+    numbered (numberOf wordMost count) (λ (k : ℕ). roundService (roundedOf c m device room k)) (unserved c m room)

@@ -12,7 +12,7 @@ ghost use Prim.Native.Nat.{_+_, _-_, _≤_};
 ghost use lib.Dec.{leb};
 ghost use lib.ListN.{length, take, drop, replicate};
 ghost use Rattle.console_text.specs.Text.{page, put};
-ghost use Rattle.console_arrays.specs.Arrays.{lentOf, lentText, bytesAt, peekText, hasPlace, changed, pokeOf, held, appended, feedOf, fillOf, roomOf, positionOf, Queued, Roomed};
+ghost use Rattle.console_arrays.specs.Arrays.{lentOf, lentText, bytesAt, peekText, hasPlace, shown, showing, pokeOf, held, appended, feedOf, fillOf, roomOf, positionOf, Queued, Roomed};
 
 // A number that a command sets, and the place behind its answer.
 pub struct Moved {
@@ -86,7 +86,7 @@ fn has_place(size: usize, a: usize, digits: &[u8]) -> bool
 }
 
 pub fn poke(memory: &mut [u8], place: &[u8], digits: &[u8], out: &mut [u8], at: usize) -> usize
-    ensures { λ r. ⌜ changed (now (memory .exit)) (page (now (out .exit)) r) ≡ pokeOf (now (memory .entry)) (page (now (out .entry)) at) (now (place .entry)) (now (digits .entry)) ⌝ }
+    ensures { λ r. ⌜ shown (now (memory .exit)) (page (now (out .exit)) r) ≡ showing (page (now (out .entry)) at) (pokeOf (now (memory .entry)) (now (place .entry)) (now (digits .entry))) ⌝ }
 {
     let first = number_of(place, WORD);
     match first {
@@ -148,7 +148,7 @@ pub fn feed(
     at: usize,
 ) -> Part
     requires { ⌜ (from ≤ to) × (to ≤ length (now queue)) × (70000 ≤ length (now queue)) ⌝ }
-    ensures { λ r. ⌜ Queued r (now (queue .exit)) (now (out .exit)) (feedOf (held (now (queue .entry)) from to) (page (now (out .entry)) at) (now (digits .entry))) ⌝ }
+    ensures { λ r. ⌜ Queued r (now (queue .exit)) (now (out .exit)) (showing (page (now (out .entry)) at) (feedOf (held (now (queue .entry)) from to) (now (digits .entry)))) ⌝ }
 {
     if !is_bytes(digits) {
         return Part {
@@ -185,7 +185,7 @@ fn fill_bytes(
     at: usize,
 ) -> Part
     requires { ⌜ (from ≤ to) × (to ≤ length (now queue)) × (70000 ≤ length (now queue)) ⌝ }
-    ensures { λ r. ⌜ Queued r (now (queue .exit)) (now (out .exit)) (appended (held (now (queue .entry)) from to) (page (now (out .entry)) at) (replicate n byte)) ⌝ }
+    ensures { λ r. ⌜ Queued r (now (queue .exit)) (now (out .exit)) (showing (page (now (out .entry)) at) (appended (held (now (queue .entry)) from to) (replicate n byte))) ⌝ }
 {
     if !may_append(from, to, n) {
         return Part {
@@ -215,7 +215,7 @@ pub fn fill(
     at: usize,
 ) -> Part
     requires { ⌜ (from ≤ to) × (to ≤ length (now queue)) × (70000 ≤ length (now queue)) ⌝ }
-    ensures { λ r. ⌜ Queued r (now (queue .exit)) (now (out .exit)) (fillOf (held (now (queue .entry)) from to) (page (now (out .entry)) at) (now (count .entry)) (now (byte .entry))) ⌝ }
+    ensures { λ r. ⌜ Queued r (now (queue .exit)) (now (out .exit)) (showing (page (now (out .entry)) at) (fillOf (held (now (queue .entry)) from to) (now (count .entry)) (now (byte .entry)))) ⌝ }
 {
     let size = number_of(count, WORD);
     let said = number_of(byte, 255);
@@ -247,7 +247,7 @@ pub fn make_room(
     at: usize,
 ) -> Part
     requires { ⌜ (written ≤ size) × (size ≤ length (now room)) × (70000 ≤ length (now room)) ⌝ }
-    ensures { λ r. ⌜ Roomed r (now (room .exit)) (now (out .exit)) (roomOf (take size (now (room .entry))) (page (now (out .entry)) at) (now (count .entry)) (now (byte .entry))) (positionOf written (now (count .entry)) (now (byte .entry))) ⌝ }
+    ensures { λ r. ⌜ Roomed r (now (room .exit)) (now (out .exit)) (showing (page (now (out .entry)) at) (roomOf (take size (now (room .entry))) (now (count .entry)) (now (byte .entry)))) (positionOf written (now (count .entry)) (now (byte .entry))) ⌝ }
 {
     let length = number_of(count, 70000);
     let said = number_of(byte, 255);

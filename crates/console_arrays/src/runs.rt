@@ -16,7 +16,7 @@ ghost use mathlib.Core.Path.{_≡_};
 ghost use Prim.Native.Nat.{ℕ};
 ghost use mathlib.Core.List.{List, _++_};
 ghost use Rattle.console_text.specs.Text.{page, put};
-ghost use Rattle.console_arrays.specs.Services.{reasonText, countsText, ranText, roundedText, servicesText, served, unserved as Services·unserved, runReply, roundReply};
+ghost use Rattle.console_arrays.specs.Services.{reasonText, countsText, ranText, roundedText, servicesText, served, serving, unserved as Services·unserved, runReply, roundReply};
 
 const WORD: u32 = 0xffff_ffff;
 
@@ -118,7 +118,7 @@ fn round_said(done: Rounded, out: &mut [u8], at: usize) -> usize
 }
 
 fn unserved(c: Controller, out: &mut [u8], at: usize) -> Served
-    ensures { λ r. ⌜ ((m room : List ℕ) → served r m room (now (out .exit)) ≡ Services·unserved c m room (page (now (out .entry)) at)) ⌝ }
+    ensures { λ r. ⌜ ((m room : List ℕ) → served r m room (now (out .exit)) ≡ serving (page (now (out .entry)) at) (Services·unserved c m room)) ⌝ }
 {
     let next = error(out, at);
     Served {
@@ -139,7 +139,7 @@ pub fn run(
     out: &mut [u8],
     at: usize,
 ) -> Served
-    ensures { λ r. ⌜ served r (now (memory .exit)) (now (room .exit)) (now (out .exit)) ≡ runReply c (now (memory .entry)) (now (device .entry)) (now (room .entry)) (page (now (out .entry)) at) (now (limit .entry)) (now (eop .entry)) ⌝ }
+    ensures { λ r. ⌜ served r (now (memory .exit)) (now (room .exit)) (now (out .exit)) ≡ serving (page (now (out .entry)) at) (runReply c (now (memory .entry)) (now (device .entry)) (now (room .entry)) (now (limit .entry)) (now (eop .entry))) ⌝ }
 {
     let most = number_of(limit, WORD);
     let meets = number_of(eop, WORD);
@@ -171,7 +171,7 @@ pub fn go_round(
     out: &mut [u8],
     at: usize,
 ) -> Served
-    ensures { λ r. ⌜ served r (now (memory .exit)) (now (room .exit)) (now (out .exit)) ≡ roundReply c (now (memory .entry)) (now (device .entry)) (now (room .entry)) (page (now (out .entry)) at) (now (count .entry)) ⌝ }
+    ensures { λ r. ⌜ served r (now (memory .exit)) (now (room .exit)) (now (out .exit)) ≡ serving (page (now (out .entry)) at) (roundReply c (now (memory .entry)) (now (device .entry)) (now (room .entry)) (now (count .entry))) ⌝ }
 {
     let services = number_of(count, WORD);
     match services {

@@ -1,13 +1,11 @@
 -- What each command on the controller answers.
-use Prim.Native.Nat.{ℕ, _*_, _/_}
-use mathlib.Core.Bool.{true, false}
-use mathlib.Core.List.{List, [], _∷_, _++_}
+use Prim.Native.Nat.{ℕ, _*_}
+use mathlib.Core.Bool.{false}
+use mathlib.Core.List.{List, _++_}
 use lib.Dec.{eqb, leb}
 use lib.ListN.{length, replicate}
 use Rattle.words.specs.Choice.{when, _and_}
-use Rattle.words.specs.Grounds.{_if_, first}
-use Rattle.am9517.specs.State.{fresh}
-use Rattle.am9517.specs.Answers.{writeOf, readOf, pinsOf, resetOf, grantOf}
+use Rattle.am9517.specs.Answers.{writeOf, readOf, pinsOf}
 use Rattle.am9517.specs.declared.Controller.{Controller}
 use Rattle.am9517_sheet.specs.declared.SheetAnswer.{SheetAnswer}
 use Rattle.am9517_sheet.specs.declared.SheetAnswer.the-variants.{Done, Refused}
@@ -48,32 +46,17 @@ sheetSaid (Refused n) text = refusedText n
 unfoldable pub sheetText : Controller → ℕ → List ℕ
 sheetText c n = let s = sheetWriteOf One c (replicate n 238) in sheetSaid (s .answer) (bytesAnswer (s .bytes))
 
--- "a sheet is written into a slice of N bytes 0xEE (N at most 70,000)"; the slice is lent from one of this length
-abbrev pub sheetReply : ℕ → Controller → List ℕ → Reply
-sheetReply spare c size =
-    numbered (numberOf 70000 size)
-    (λ (n : ℕ). when (leb n spare) (reply c (sheetText c n)) (errorReply c))
-    (errorReply c)
+-- a reply that wants n bytes of an array of this length, where it has them
+abbrev pub within : ℕ → ℕ → Controller → Reply → Reply
+within spare n c r = when (leb n spare) r (errorReply c)
+
+-- "a sheet is written into a slice of N bytes 0xEE (N at most 70,000)"
+abbrev pub sheetReply : Controller → List ℕ → Reply
+sheetReply c size = numbered (numberOf 70000 size) (λ (n : ℕ). reply c (sheetText c n)) (errorReply c)
 
 abbrev pub readSheet : SheetRead → Reply
 readSheet r = reply (r .controller) (sheetSaid (r .answer) okText)
 
 -- "a sheet is read from these bytes"
-abbrev pub loadReply : ℕ → Controller → List ℕ → Reply
-loadReply spare c digits = when (isBytes digits and leb (length digits / 2) spare) (readSheet (sheetReadOf One c (bytesIn digits))) (errorReply c)
-
--- what the commands 1 to 10 do to the controller, and what they answer; `spare` bytes are lent for a sheet
-unfoldable pub replyTo : ℕ → Controller → List ℕ → List ℕ → ℕ → Reply
-replyTo form c one two spare =
-    first (
-    reply c (stateText c) if eqb form 1
-    ∷ stateReply c one if eqb form 2
-    ∷ reply fresh okText if eqb form 3
-    ∷ writeReply c one two if eqb form 4
-    ∷ readReply c one if eqb form 5
-    ∷ pinsReply c one if eqb form 6
-    ∷ outcomeReply false (resetOf c) if eqb form 7
-    ∷ outcomeReply true (grantOf c) if eqb form 8
-    ∷ sheetReply spare c one if eqb form 9
-    ∷ loadReply spare c one if eqb form 10
-    ∷ []) (errorReply c)
+abbrev pub loadReply : Controller → List ℕ → Reply
+loadReply c digits = when (isBytes digits) (readSheet (sheetReadOf One c (bytesIn digits))) (errorReply c)

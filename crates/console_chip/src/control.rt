@@ -19,19 +19,19 @@ use console_text::page::copies;
 use console_text::page::hex;
 use console_text::page::text;
 ghost use mathlib.Core.Path.{_≡_};
-ghost use Prim.Native.Nat.{_≤_};
+ghost use Prim.Native.Nat.{_≤_, _/_};
 ghost use lib.ListN.{length};
 ghost use Rattle.am9517.specs.State.{fresh};
 ghost use Rattle.am9517.specs.Answers.{resetOf, grantOf};
 ghost use Rattle.console_text.specs.Text.{page, put};
 ghost use Rattle.console_chip.specs.Answers.{okText, bytesAnswer, reply, outcomeReply, said, saying};
 ghost use mathlib.Core.Bool.{true, false};
-ghost use Rattle.console_chip.specs.Control.{stateText, sheetSaid, sheetText, writeReply, readReply, pinsReply, stateReply, sheetReply, loadReply, replyTo};
+ghost use Rattle.console_chip.specs.Control.{stateText, sheetSaid, sheetText, writeReply, readReply, pinsReply, stateReply, within, sheetReply, loadReply};
 
 // The largest register number, limit or count that a command takes.
 const WORD: u32 = 0xffff_ffff;
 
-fn state(c: Controller, out: &mut [u8], at: usize) -> usize
+pub fn state(c: Controller, out: &mut [u8], at: usize) -> usize
     ensures { λ r. ⌜ page (now (out .exit)) r ≡ put (page (now (out .entry)) at) (stateText c) ⌝ }
 {
     let body = body_of(c);
@@ -39,7 +39,7 @@ fn state(c: Controller, out: &mut [u8], at: usize) -> usize
     hex(out, next, &body)
 }
 
-fn set_state(c: Controller, digits: &[u8], out: &mut [u8], at: usize) -> Spoken
+pub fn set_state(c: Controller, digits: &[u8], out: &mut [u8], at: usize) -> Spoken
     ensures { λ r. ⌜ said r (now (out .exit)) ≡ saying (page (now (out .entry)) at) (stateReply c (now (digits .entry))) ⌝ }
 {
     if !is_bytes(digits) {
@@ -54,14 +54,14 @@ fn set_state(c: Controller, digits: &[u8], out: &mut [u8], at: usize) -> Spoken
     agree(out, at, next)
 }
 
-fn make_fresh(out: &mut [u8], at: usize) -> Spoken
+pub fn make_fresh(out: &mut [u8], at: usize) -> Spoken
     ensures { λ r. ⌜ said r (now (out .exit)) ≡ saying (page (now (out .entry)) at) (reply fresh okText) ⌝ }
 {
     let next = Controller::fresh();
     agree(out, at, next)
 }
 
-fn write(c: Controller, reg: &[u8], byte: &[u8], out: &mut [u8], at: usize) -> Spoken
+pub fn write(c: Controller, reg: &[u8], byte: &[u8], out: &mut [u8], at: usize) -> Spoken
     ensures { λ r. ⌜ said r (now (out .exit)) ≡ saying (page (now (out .entry)) at) (writeReply c (now (reg .entry)) (now (byte .entry))) ⌝ }
 {
     let place = number_of(reg, WORD);
@@ -78,7 +78,7 @@ fn write(c: Controller, reg: &[u8], byte: &[u8], out: &mut [u8], at: usize) -> S
     }
 }
 
-fn read(c: Controller, reg: &[u8], out: &mut [u8], at: usize) -> Spoken
+pub fn read(c: Controller, reg: &[u8], out: &mut [u8], at: usize) -> Spoken
     ensures { λ r. ⌜ said r (now (out .exit)) ≡ saying (page (now (out .entry)) at) (readReply c (now (reg .entry))) ⌝ }
 {
     let place = number_of(reg, WORD);
@@ -91,7 +91,7 @@ fn read(c: Controller, reg: &[u8], out: &mut [u8], at: usize) -> Spoken
     }
 }
 
-fn pins(c: Controller, levels: &[u8], out: &mut [u8], at: usize) -> Spoken
+pub fn pins(c: Controller, levels: &[u8], out: &mut [u8], at: usize) -> Spoken
     ensures { λ r. ⌜ said r (now (out .exit)) ≡ saying (page (now (out .entry)) at) (pinsReply c (now (levels .entry))) ⌝ }
 {
     let said = number_of(levels, WORD);
@@ -104,14 +104,14 @@ fn pins(c: Controller, levels: &[u8], out: &mut [u8], at: usize) -> Spoken
     }
 }
 
-fn reset(c: Controller, out: &mut [u8], at: usize) -> Spoken
+pub fn reset(c: Controller, out: &mut [u8], at: usize) -> Spoken
     ensures { λ r. ⌜ said r (now (out .exit)) ≡ saying (page (now (out .entry)) at) (outcomeReply false (resetOf c)) ⌝ }
 {
     let done = c.reset();
     tell(out, at, done, false)
 }
 
-fn grant(c: Controller, out: &mut [u8], at: usize) -> Spoken
+pub fn grant(c: Controller, out: &mut [u8], at: usize) -> Spoken
     ensures { λ r. ⌜ said r (now (out .exit)) ≡ saying (page (now (out .entry)) at) (outcomeReply true (grantOf c)) ⌝ }
 {
     let done = c.grant();
@@ -147,17 +147,16 @@ fn sheet_of(c: Controller, n: usize, spare: &mut [u8], out: &mut [u8], at: usize
     sheet_said(answer, slice, out, at)
 }
 
-fn sheet(c: Controller, size: &[u8], spare: &mut [u8], out: &mut [u8], at: usize) -> Spoken
-    ensures { λ r. ⌜ said r (now (out .exit)) ≡ saying (page (now (out .entry)) at) (sheetReply (length (now (spare .entry))) c (now (size .entry))) ⌝ }
+pub fn sheet(c: Controller, size: &[u8], spare: &mut [u8], out: &mut [u8], at: usize) -> Spoken
+    ensures { λ r. ⌜ said r (now (out .exit)) ≡ saying (page (now (out .entry)) at) (within (length (now (spare .entry))) 70000 c (sheetReply c (now (size .entry)))) ⌝ }
 {
+    if spare.len() < 70000 {
+        return fault(out, at, c);
+    }
     let said = number_of(size, 70000);
     match said {
         Number::Value(n) => {
-            let n = n as usize;
-            if spare.len() < n {
-                return fault(out, at, c);
-            }
-            let next = sheet_of(c, n, spare, out, at);
+            let next = sheet_of(c, n as usize, spare, out, at);
             Spoken {
                 controller: c,
                 at: next,
@@ -167,14 +166,14 @@ fn sheet(c: Controller, size: &[u8], spare: &mut [u8], out: &mut [u8], at: usize
     }
 }
 
-fn load(c: Controller, digits: &[u8], spare: &mut [u8], out: &mut [u8], at: usize) -> Spoken
-    ensures { λ r. ⌜ said r (now (out .exit)) ≡ saying (page (now (out .entry)) at) (loadReply (length (now (spare .entry))) c (now (digits .entry))) ⌝ }
+pub fn load(c: Controller, digits: &[u8], spare: &mut [u8], out: &mut [u8], at: usize) -> Spoken
+    ensures { λ r. ⌜ said r (now (out .exit)) ≡ saying (page (now (out .entry)) at) (within (length (now (spare .entry))) (length (now (digits .entry)) / 2) c (loadReply c (now (digits .entry)))) ⌝ }
 {
-    if !is_bytes(digits) {
-        return fault(out, at, c);
-    }
     let n = digits.len() / 2;
     if spare.len() < n {
+        return fault(out, at, c);
+    }
+    if !is_bytes(digits) {
         return fault(out, at, c);
     }
     store(spare, 0, digits);
@@ -185,38 +184,5 @@ fn load(c: Controller, digits: &[u8], spare: &mut [u8], out: &mut [u8], at: usiz
     Spoken {
         controller,
         at: next,
-    }
-}
-
-// Commands 1 to 10.
-pub fn on_controller(
-    c: Controller,
-    form: u8,
-    one: &[u8],
-    two: &[u8],
-    spare: &mut [u8],
-    out: &mut [u8],
-    at: usize,
-) -> Spoken
-    ensures { λ r. ⌜ said r (now (out .exit)) ≡ saying (page (now (out .entry)) at) (replyTo form c (now (one .entry)) (now (two .entry)) (length (now (spare .entry)))) ⌝ }
-{
-    match form {
-        1 => {
-            let next = state(c, out, at);
-            Spoken {
-                controller: c,
-                at: next,
-            }
-        }
-        2 => set_state(c, one, out, at),
-        3 => make_fresh(out, at),
-        4 => write(c, one, two, out, at),
-        5 => read(c, one, out, at),
-        6 => pins(c, one, out, at),
-        7 => reset(c, out, at),
-        8 => grant(c, out, at),
-        9 => sheet(c, one, spare, out, at),
-        10 => load(c, one, spare, out, at),
-        _ => fault(out, at, c),
     }
 }

@@ -1,64 +1,87 @@
--- What the console holds lies in its arrays.
-use Prim.Native.Nat.{ℕ, _+_, _-_}
+-- What the console holds, and where it lies in the console's arrays.
+use Prim.Native.Nat.{ℕ}
 use mathlib.Core.Path.{_≡_}
 use mathlib.Core.Bool.{Bool}
 use mathlib.Core.List.{List}
-use lib.Dec.{leb, ltb}
-use Rattle.words.specs.Choice.{when, _and_}
-use Rattle.console_text.specs.Text.{Page, page}
+use lib.Dec.{leb}
+use lib.ListN.{length, take}
+use Rattle.words.specs.Choice.{_and_}
+use Rattle.am9517.specs.State.{fresh}
 use Rattle.am9517.specs.declared.Controller.{Controller}
-use Rattle.console_arrays.specs.declared.arrays.Part.{Part}
-use Rattle.console_arrays.specs.declared.runs.Served.{Served}
+use Rattle.console_text.specs.Text.{Page, page, put}
+use Rattle.console_arrays.specs.Arrays.{held}
 use Rattle.console_commands.specs.declared.Console.{Console}
 use Rattle.console_commands.specs.declared.holding.Executed.{Executed}
 
--- in arrays of these lengths
-unfoldable pub stands : Console → ℕ → ℕ → ℕ → Bool
-stands c memory queue room =
-    leb (c .lent) memory
+-- "The console holds: one controller (fresh at the start); a memory array of 65,537 bytes, zero at the start, of which
+-- the first memory bytes are lent to runs and rounds (65,536 at the start); the device's input queue (empty, at most
+-- 70,000 bytes); the device room (0 bytes at the start, at most 70,000) with a write position."
+pub record Held : Type 0 where
+  pub controller : Controller
+  pub memory : List ℕ
+  pub lent : ℕ
+  pub queue : List ℕ
+  pub room : List ℕ
+  pub written : ℕ
+
+-- at the start: a fresh controller, 65,536 bytes lent, the queue empty, a room of 0 bytes
+abbrev pub freshConsole : Console
+freshConsole = record { controller = fresh; lent = 65536; start = 0; end = 0; size = 0; written = 0 }
+
+-- What a line does: what is held after it, and the text of its answer.
+pub record Said : Type 0 where
+  pub holding : Held
+  pub text : List ℕ
+
+abbrev pub said : Held → List ℕ → Said
+said h t = record { holding = h; text = t }
+
+-- it lies in arrays of these lengths
+unfoldable pub stands : Console → ℕ → ℕ → ℕ → ℕ → Bool
+stands c memory queue room spare =
+    (leb (c .lent) memory and leb 65537 memory)
     and (leb (c .start) (c .end) and leb (c .end) queue and leb 70000 queue)
-    and leb (c .written) (c .size) and leb (c .size) room and leb 70000 room
+    and (leb (c .written) (c .size) and leb (c .size) room and leb 70000 room)
+    and leb 100000 spare
 
--- what a line leaves: this console, and this page
-abbrev pub left : Executed → List ℕ → Console → Page → Type 0
-left r out c p = (r .console ≡ c) × (page out (r .at) ≡ p)
-
--- a place n further on, and not past the last
-unfoldable pub further : ℕ → ℕ → ℕ → ℕ
-further from n last = when (ltb last from) from (when (ltb (last - from) n) last (from + n))
-
--- "Bytes used leave the queue; bytes written go to the room from its write position on, which moves behind them"
-abbrev pub afterService : Console → Served → Console
-afterService c s =
+abbrev pub holds : Console → List ℕ → List ℕ → List ℕ → Held
+holds c memory queue room =
     record {
-      controller = s .controller;
+      controller = c .controller;
+      memory = memory;
       lent = c .lent;
-      start = further (c .start) (s .used) (c .end);
-      end = c .end;
-      size = c .size;
-      written = further (c .written) (s .written) (c .size);
+      queue = held queue (c .start) (c .end);
+      room = take (c .size) room;
+      written = c .written;
     }
 
--- the queue's part of its array, and the room's of its own
-abbrev pub queuePart : Executed → Part
-queuePart r = record { from = r .console .start; to = r .console .end; at = r .at }
+-- What is seen of a line: what the console holds after it, and the page that its answer stands on.
+pub record Left : Type 0 where
+  pub holding : Held
+  pub page : Page
 
-abbrev pub roomPart : Executed → Part
-roomPart r = record { from = r .console .written; to = r .console .size; at = r .at }
+abbrev pub left : Executed → List ℕ → List ℕ → List ℕ → List ℕ → Left
+left r memory queue room out = record { holding = holds (r .console) memory queue room; page = page out (r .at) }
 
--- a console that differs in its queue, its room, the bytes lent or its controller alone
-abbrev pub withQueue : Console → Executed → Console
-withQueue c r =
-    record { controller = c .controller; lent = c .lent; start = r .console .start; end = r .console .end; size = c .size; written = c .written }
+abbrev pub leaving : Page → Said → Left
+leaving p s = record { holding = s .holding; page = put p (s .text) }
 
-abbrev pub withRoom : Console → Executed → Console
-withRoom c r =
-    record { controller = c .controller; lent = c .lent; start = c .start; end = c .end; size = r .console .size; written = r .console .written }
+-- The console's arrays; of the last, which commands use for their own ends, nothing is held.
+pub record Arrays : Type 0 where
+  pub memory : List ℕ
+  pub queue : List ℕ
+  pub room : List ℕ
+  pub spare : List ℕ
 
-abbrev pub withLent : Console → ℕ → Console
-withLent c n =
-    record { controller = c .controller; lent = n; start = c .start; end = c .end; size = c .size; written = c .written }
+abbrev pub arrays : List ℕ → List ℕ → List ℕ → List ℕ → Arrays
+arrays memory queue room spare = record { memory = memory; queue = queue; room = room; spare = spare }
 
-abbrev pub withController : Console → Controller → Console
-withController c next =
-    record { controller = next; lent = c .lent; start = c .start; end = c .end; size = c .size; written = c .written }
+abbrev pub standsIn : Console → Arrays → Bool
+standsIn c a = stands c (length (a .memory)) (length (a .queue)) (length (a .room)) (length (a .spare))
+
+-- What was asked of a console with these arrays and this page is done: what is left is what it gives, for some text of `show`
+-- and `help`, of which no more is promised; and what lay in the arrays lies in them still.
+pub record Done (gives : Bool → Held → List ℕ → Said) (c : Console) (was : Arrays) (p : Page) (r : Executed) (now : Arrays) (out : List ℕ) : Type 0 where
+  pub shown : List ℕ
+  pub so : left r (now .memory) (now .queue) (now .room) out ≡ leaving p (gives (standsIn c was) (holds c (was .memory) (was .queue) (was .room)) shown)
+  pub stood : standsIn (r .console) was ≡ standsIn c was

@@ -1,9 +1,13 @@
 // The commands of a line, on all that the console holds.
 use am9517::Controller;
+ghost use mathlib.Core.Path.{_≡_};
+ghost use Rattle.console_commands.specs.Holding.{freshConsole};
 
+mod arrays;
+mod chip;
 mod command;
-mod device;
 mod holding;
+mod people;
 mod services;
 
 pub use command::execute;
@@ -21,7 +25,9 @@ pub struct Console {
 }
 
 impl Console {
-    pub fn fresh() -> Console {
+    pub fn fresh() -> Console
+        ensures { λ r. ⌜ r ≡ freshConsole ⌝ }
+    {
         let controller = Controller::fresh();
         Console {
             controller,

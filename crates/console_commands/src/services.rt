@@ -1,17 +1,22 @@
 // The commands run and round: what they are lent, and what they leave.
 use crate::Console;
 use crate::holding::Executed;
+use am9517::Controller;
 use console_arrays::runs::Served;
 use console_arrays::runs::go_round;
 use console_arrays::runs::run;
-ghost use Prim.Native.Nat.{_≤_};
+use console_text::forms::ServiceCommand;
 ghost use mathlib.Core.Path.{_≡_};
 ghost use lib.ListN.{length};
-ghost use Rattle.console_commands.specs.Holding.{further as Holding·further, afterService};
+ghost use Rattle.console_text.specs.Text.{page};
+ghost use Rattle.console_arrays.specs.Services.{served, serving};
+ghost use Rattle.console_commands.specs.Holding.{holds, left, leaving};
+ghost use Rattle.console_commands.specs.Doings.{further as Doings·further, serviceReply, servicesDo};
+ghost use Rattle.console_commands.specs.Needs.{Standing, afterService};
 
 // A place n further on, and not past the last.
 fn further(from: usize, n: usize, last: usize) -> usize
-    ensures { λ r. ⌜ r ≡ Holding·further from n last ⌝ }
+    ensures { λ r. ⌜ r ≡ Doings·further from n last ⌝ }
 {
     if last < from {
         return from;
@@ -37,10 +42,29 @@ fn after_service(console: Console, served: Served) -> Executed
     }
 }
 
-// Commands 18 and 19: what is lent are the memory's front, the queue, and the room behind its write position.
+fn serve(
+    c: Controller,
+    command: ServiceCommand,
+    memory: &mut [u8],
+    device: &[u8],
+    room: &mut [u8],
+    one: &[u8],
+    two: &[u8],
+    out: &mut [u8],
+    at: usize,
+) -> Served
+    ensures { λ r. ⌜ served r (now (memory .exit)) (now (room .exit)) (now (out .exit)) ≡ serving (page (now (out .entry)) at) (serviceReply command c (now (memory .entry)) (now (device .entry)) (now (room .entry)) (now (one .entry)) (now (two .entry))) ⌝ }
+{
+    match command {
+        ServiceCommand::Run => run(c, memory, device, room, one, two, out, at),
+        ServiceCommand::Round => go_round(c, memory, device, room, one, out, at),
+    }
+}
+
+// What is lent are the memory's front, the queue, and the room behind its write position.
 pub(crate) fn on_services(
     console: Console,
-    form: u8,
+    command: ServiceCommand,
     one: &[u8],
     two: &[u8],
     memory: &mut [u8],
@@ -49,7 +73,8 @@ pub(crate) fn on_services(
     out: &mut [u8],
     at: usize,
 ) -> Executed
-    requires { ⌜ (console .lent ≤ length (now memory)) × (console .start ≤ console .end) × (console .end ≤ length (now queue)) × (console .written ≤ console .size) × (console .size ≤ length (now room)) ⌝ }
+    requires { ⌜ Standing console (length (now memory)) (length (now queue)) (length (now room)) ⌝ }
+    ensures { λ r. ⌜ (left r (now (memory .exit)) (now (queue .entry)) (now (room .exit)) (now (out .exit)) ≡ leaving (page (now (out .entry)) at) (servicesDo command (now (one .entry)) (now (two .entry)) (holds console (now (memory .entry)) (now (queue .entry)) (now (room .entry))))) × Standing (r .console) (length (now (memory .entry))) (length (now (queue .entry))) (length (now (room .entry))) ⌝ }
 {
     let lent = console.lent;
     let from = console.start;
@@ -60,10 +85,6 @@ pub(crate) fn on_services(
     let front = &mut memory[0..lent];
     let device = &queue[from..to];
     let rest = &mut room[written..size];
-    if form == 18 {
-        let done = run(c, front, device, rest, one, two, out, at);
-        return after_service(console, done);
-    }
-    let done = go_round(c, front, device, rest, one, out, at);
+    let done = serve(c, command, front, device, rest, one, two, out, at);
     after_service(console, done)
 }

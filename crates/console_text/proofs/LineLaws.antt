@@ -1,12 +1,14 @@
 -- Laws of words of a line.
 use Prim.Native.Nat.{ℕ, _+_, _≤_, _<_}
-use mathlib.Core.Path.{_≡_, refl}
+use mathlib.Core.Path.{_≡_, refl, ap, _∙_}
 use mathlib.Core.Bool.{Bool, true, false}
 use mathlib.Core.List.{List, [], _∷_}
 use native.Mathlib.Omega.{arith}
 use lib.ListN.{length, getD, drop}
 use Rattle.words.specs.Choice.{when}
-use Rattle.console_text.specs.Lines.{run, endOf}
+use Rattle.console_text.specs.Lines.{run, wordAt, oneIf, wordsFrom, wordsIn, endOf}
+use Rattle.console_text.specs.declared.line.Span.{Span}
+use Rattle.console_text.specs.declared.line.Words.{Words}
 use Rattle.console_text.proofs.TextLaws.{drop-next, drop-end}
 
 module _ (test : ℕ → Bool) (s : List ℕ) (i : ℕ) where
@@ -28,3 +30,13 @@ pub end-none : (s : List ℕ) → length s ≡ 0 → (0 ≡ endOf s) × (0 ≤ l
 unfolding endOf when
 end-none [] h = (refl, omega arith)
 end-none (x ∷ xs) h = absurd (omega arith)
+
+-- the words of a line, one behind the other
+pub words-so : (s : List ℕ) (name one two more : Span) (n : ℕ) → name ≡ wordAt s 0 → one ≡ wordAt s (name .to) → two ≡ wordAt s (one .to)
+    → more ≡ wordAt s (two .to) → n ≡ oneIf one + oneIf two + oneIf more → _≡_ {A = Words} (record { name = name; one = one; two = two; count = n }) (wordsIn s)
+words-so s name one two more n a b c d e =
+    let count : n ≡ oneIf one + oneIf two + oneIf (wordAt s (two .to)) = e ∙ ap (λ (w : Span). oneIf one + oneIf two + oneIf w) d in
+    ap (λ (k : ℕ). record { name = name; one = one; two = two; count = k }) count
+    ∙ ap (λ (w : Span). wordsFrom s name one w) c
+    ∙ ap (λ (w : Span). wordsFrom s name w (wordAt s (w .to))) b
+    ∙ ap (λ (w : Span). let x = wordAt s (w .to) in wordsFrom s w x (wordAt s (x .to))) a

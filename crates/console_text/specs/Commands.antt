@@ -1,51 +1,84 @@
 -- The commands: each is a name and a number of further words.
 use Prim.Native.Nat.{ℕ}
+use Prim.Native.String.{String}
 use mathlib.Core.Bool.{Bool}
 use mathlib.Core.List.{List, [], _∷_}
 use lib.Dec.{eqb}
-use Rattle.words.specs.Choice.{_and_}
-use Rattle.words.specs.Grounds.{Ground, _if_, first}
+use lib.ListN.{length}
+use Rattle.words.specs.Choice.{when, _and_}
 use Rattle.console_text.specs.Text.{codes, same}
+use Rattle.console_text.specs.declared.forms.Command.{Command}
+use Rattle.console_text.specs.declared.forms.Command.the-variants.{Nothing, Chip, Arrays, Services, People, Unknown}
+use Rattle.console_text.specs.declared.forms.ChipCommand.the-variants.{State, SetState, Fresh, Write, Read, Pins, Reset, Grant, Sheet, Load}
+use Rattle.console_text.specs.declared.forms.ArrayCommand.the-variants.{Memory, Poke, Peek, Feed, Fill, Room, Out, Dump, Queue, Empty}
+use Rattle.console_text.specs.declared.forms.ServiceCommand.the-variants.{Run, Round}
+use Rattle.console_text.specs.declared.forms.PeopleCommand.the-variants.{Show, Help, HelpOn}
 
 -- a line of this name with n further words is the command of that name with k
 unfoldable pub isForm : List ℕ → ℕ → List ℕ → ℕ → Bool
-isForm name n word k = same name word and eqb n k
+isForm name n word k = eqb n k and same name word
 
--- the number of a command
-abbrev pub controllerForms : List ℕ → ℕ → List (Ground ℕ)
-controllerForms name n =
-    1 if isForm name n (codes "state") 0
-    ∷ 2 if isForm name n (codes "state") 1
-    ∷ 3 if isForm name n (codes "fresh") 0
-    ∷ 4 if isForm name n (codes "write") 2
-    ∷ 5 if isForm name n (codes "read") 1
-    ∷ 6 if isForm name n (codes "pins") 1
-    ∷ 7 if isForm name n (codes "reset") 0
-    ∷ 8 if isForm name n (codes "grant") 0
-    ∷ 9 if isForm name n (codes "sheet") 1
-    ∷ 10 if isForm name n (codes "load") 1
+-- A row: a name, the number of words behind it, and the command.
+pub record Row : Type 0 where
+  pub name : String
+  pub words : ℕ
+  pub command : Command
+
+abbrev pub row : String → ℕ → Command → Row
+row name words command = record { name = name; words = words; command = command }
+
+-- the command of the first row that a name with n further words is, else `other`
+abbrev pub pick : List Row → List ℕ → ℕ → Command → Command
+pick [] name n other = other
+pick (r ∷ rows) name n other = when (isForm name n (codes (r .name)) (r .words)) (r .command) (pick rows name n other)
+
+-- on the controller
+abbrev pub controllerRows : List Row
+controllerRows =
+    row "state" 0 (Chip State)
+    ∷ row "state" 1 (Chip SetState)
+    ∷ row "fresh" 0 (Chip Fresh)
+    ∷ row "write" 2 (Chip Write)
+    ∷ row "read" 1 (Chip Read)
+    ∷ row "pins" 1 (Chip Pins)
+    ∷ row "reset" 0 (Chip Reset)
+    ∷ row "grant" 0 (Chip Grant)
     ∷ []
 
-abbrev pub arrayForms : List ℕ → ℕ → List (Ground ℕ)
-arrayForms name n =
-    11 if isForm name n (codes "memory") 1
-    ∷ 12 if isForm name n (codes "poke") 2
-    ∷ 13 if isForm name n (codes "peek") 2
-    ∷ 14 if isForm name n (codes "feed") 1
-    ∷ 15 if isForm name n (codes "fill") 2
-    ∷ 16 if isForm name n (codes "room") 2
-    ∷ 17 if isForm name n (codes "out") 2
+-- on the memory, the queue and the room
+abbrev pub arrayRows : List Row
+arrayRows =
+    row "memory" 1 (Arrays Memory)
+    ∷ row "poke" 2 (Arrays Poke)
+    ∷ row "peek" 2 (Arrays Peek)
+    ∷ row "feed" 1 (Arrays Feed)
+    ∷ row "fill" 2 (Arrays Fill)
+    ∷ row "room" 2 (Arrays Room)
+    ∷ row "out" 2 (Arrays Out)
     ∷ []
 
-abbrev pub otherForms : List ℕ → ℕ → List (Ground ℕ)
-otherForms name n =
-    18 if isForm name n (codes "run") 2
-    ∷ 19 if isForm name n (codes "round") 1
-    ∷ 20 if isForm name n (codes "show") 0
-    ∷ 21 if isForm name n (codes "help") 0
-    ∷ 22 if isForm name n (codes "help") 1
+-- services and sheets
+abbrev pub serviceRows : List Row
+serviceRows =
+    row "run" 2 (Services Run)
+    ∷ row "round" 1 (Services Round)
+    ∷ row "sheet" 1 (Chip Sheet)
+    ∷ row "load" 1 (Chip Load)
     ∷ []
 
--- 0 for anything else
-unfoldable pub formOf : List ℕ → ℕ → ℕ
-formOf name n = first (controllerForms name n) (first (arrayForms name n) (first (otherForms name n) 0))
+-- for people
+abbrev pub peopleRows : List Row
+peopleRows =
+    row "show" 0 (People Show)
+    ∷ row "help" 0 (People Help)
+    ∷ row "help" 1 (People HelpOn)
+    ∷ row "dump" 2 (Arrays Dump)
+    ∷ row "queue" 0 (Arrays Queue)
+    ∷ row "empty" 0 (Arrays Empty)
+    ∷ []
+
+-- the command that a name with n further words is; a line of no words has no name
+unfoldable pub commandOf : List ℕ → ℕ → Command
+commandOf name n =
+    when (eqb (length name) 0) Nothing
+    (pick controllerRows name n (pick arrayRows name n (pick serviceRows name n (pick peopleRows name n Unknown))))

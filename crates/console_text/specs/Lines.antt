@@ -3,10 +3,11 @@
 use Prim.Native.Nat.{ℕ, _+_, _-_}
 use mathlib.Core.Bool.{Bool, not, _||_}
 use mathlib.Core.List.{List, [], _∷_}
-use lib.Dec.{eqb}
+use lib.Dec.{eqb, ltb}
 use lib.ListN.{length, getD, take, drop}
 use Rattle.words.specs.Choice.{when}
 use Rattle.console_text.specs.declared.line.Span.{Span}
+use Rattle.console_text.specs.declared.line.Words.{Words}
 
 -- how many characters at the front pass the test
 unfoldable pub run : (ℕ → Bool) → List ℕ → ℕ
@@ -30,6 +31,25 @@ wordFrom s from = record { from = from; to = from + run isLetter (drop from s) }
 
 abbrev pub wordAt : List ℕ → ℕ → Span
 wordAt s at = wordFrom s (at + run isBlank (drop at s))
+
+-- what stands there
+abbrev pub cut : List ℕ → Span → List ℕ
+cut s w = take (w .to - w .from) (drop (w .from) s)
+
+-- 1 where there is a word
+unfoldable pub oneIf : Span → ℕ
+oneIf w = when (ltb (w .from) (w .to)) 1 0
+
+-- a line's first word, the two behind it, and how many there are behind the first, 3 standing for more than two
+abbrev pub wordsFrom : List ℕ → Span → Span → Span → Words
+wordsFrom s name one two =
+    record { name = name; one = one; two = two; count = oneIf one + oneIf two + oneIf (wordAt s (two .to)) }
+
+abbrev pub wordsIn : List ℕ → Words
+wordsIn s =
+    let name = wordAt s 0 in
+    let one = wordAt s (name .to) in
+    wordsFrom s name one (wordAt s (one .to))
 
 -- the length of a line without a carriage return at its end
 unfoldable pub endOf : List ℕ → ℕ

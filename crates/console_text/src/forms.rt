@@ -1,58 +1,179 @@
 // Which command a line is: its name, and how many further words it has.
 use crate::line::same;
-use words::choice::when;
 ghost use mathlib.Core.Path.{_≡_};
-ghost use Rattle.words.specs.Grounds.{first};
-ghost use Rattle.console_text.specs.Commands.{isForm, controllerForms, arrayForms, otherForms, formOf};
+ghost use Rattle.words.specs.Choice.{when};
+ghost use Rattle.console_text.specs.declared.forms.Command.the-variants.{Chip, Arrays, Services, People};
+ghost use Rattle.console_text.specs.Commands.{isForm, pick, controllerRows, arrayRows, serviceRows, peopleRows, commandOf};
 
-fn is_form(name: &[u8], n: usize, word: &[u8], k: usize) -> bool
-    ensures { λ r. ⌜ r ≡ isForm (now (name .entry)) n (now (word .entry)) k ⌝ }
-{
-    let named = same(name, word);
-    named & (n == k)
+// A command, by what it is given: the controller, the arrays, all of them, or nothing; a line of no words; anything else.
+pub enum Command {
+    Nothing,
+    Chip(ChipCommand),
+    Arrays(ArrayCommand),
+    Services(ServiceCommand),
+    People(PeopleCommand),
+    Unknown,
 }
 
-fn controller_form(name: &[u8], n: usize, other: u8) -> u8
-    ensures { λ r. ⌜ r ≡ first (controllerForms (now (name .entry)) n) other ⌝ }
-{
-    let no = when(is_form(name, n, b"load", 1), 10, other);
-    let no = when(is_form(name, n, b"sheet", 1), 9, no);
-    let no = when(is_form(name, n, b"grant", 0), 8, no);
-    let no = when(is_form(name, n, b"reset", 0), 7, no);
-    let no = when(is_form(name, n, b"pins", 1), 6, no);
-    let no = when(is_form(name, n, b"read", 1), 5, no);
-    let no = when(is_form(name, n, b"write", 2), 4, no);
-    let no = when(is_form(name, n, b"fresh", 0), 3, no);
-    let no = when(is_form(name, n, b"state", 1), 2, no);
-    when(is_form(name, n, b"state", 0), 1, no)
+// On the controller.
+pub enum ChipCommand {
+    State,
+    SetState,
+    Fresh,
+    Write,
+    Read,
+    Pins,
+    Reset,
+    Grant,
+    Sheet,
+    Load,
 }
 
-fn array_form(name: &[u8], n: usize, other: u8) -> u8
-    ensures { λ r. ⌜ r ≡ first (arrayForms (now (name .entry)) n) other ⌝ }
-{
-    let no = when(is_form(name, n, b"out", 2), 17, other);
-    let no = when(is_form(name, n, b"room", 2), 16, no);
-    let no = when(is_form(name, n, b"fill", 2), 15, no);
-    let no = when(is_form(name, n, b"feed", 1), 14, no);
-    let no = when(is_form(name, n, b"peek", 2), 13, no);
-    let no = when(is_form(name, n, b"poke", 2), 12, no);
-    when(is_form(name, n, b"memory", 1), 11, no)
+// On the memory, the queue and the room.
+pub enum ArrayCommand {
+    Memory,
+    Poke,
+    Peek,
+    Feed,
+    Fill,
+    Room,
+    Out,
+    Dump,
+    Queue,
+    Empty,
 }
 
-fn other_form(name: &[u8], n: usize, other: u8) -> u8
-    ensures { λ r. ⌜ r ≡ first (otherForms (now (name .entry)) n) other ⌝ }
-{
-    let no = when(is_form(name, n, b"help", 1), 22, other);
-    let no = when(is_form(name, n, b"help", 0), 21, no);
-    let no = when(is_form(name, n, b"show", 0), 20, no);
-    let no = when(is_form(name, n, b"round", 1), 19, no);
-    when(is_form(name, n, b"run", 2), 18, no)
+// On the controller with all of them lent.
+pub enum ServiceCommand {
+    Run,
+    Round,
 }
 
-pub fn form_of(name: &[u8], n: usize) -> u8
-    ensures { λ r. ⌜ r ≡ formOf (now (name .entry)) n ⌝ }
+// For people.
+pub enum PeopleCommand {
+    Show,
+    Help,
+    HelpOn,
+}
+
+// The command where the line is of its row, else the other one.
+fn row(name: &[u8], n: usize, word: &[u8], k: usize, command: Command, other: Command) -> Command
+    ensures { λ r. ⌜ r ≡ when (isForm (now (name .entry)) n (now (word .entry)) k) command other ⌝ }
 {
-    let no = other_form(name, n, 0);
-    let no = array_form(name, n, no);
-    controller_form(name, n, no)
+    if n != k {
+        return other;
+    }
+    if same(name, word) {
+        return command;
+    }
+    other
+}
+
+fn chip(
+    name: &[u8],
+    n: usize,
+    word: &[u8],
+    k: usize,
+    command: ChipCommand,
+    other: Command,
+) -> Command
+    ensures { λ r. ⌜ r ≡ when (isForm (now (name .entry)) n (now (word .entry)) k) (Chip command) other ⌝ }
+{
+    row(name, n, word, k, Command::Chip(command), other)
+}
+
+fn array(
+    name: &[u8],
+    n: usize,
+    word: &[u8],
+    k: usize,
+    command: ArrayCommand,
+    other: Command,
+) -> Command
+    ensures { λ r. ⌜ r ≡ when (isForm (now (name .entry)) n (now (word .entry)) k) (Arrays command) other ⌝ }
+{
+    row(name, n, word, k, Command::Arrays(command), other)
+}
+
+fn service(
+    name: &[u8],
+    n: usize,
+    word: &[u8],
+    k: usize,
+    command: ServiceCommand,
+    other: Command,
+) -> Command
+    ensures { λ r. ⌜ r ≡ when (isForm (now (name .entry)) n (now (word .entry)) k) (Services command) other ⌝ }
+{
+    row(name, n, word, k, Command::Services(command), other)
+}
+
+fn people(
+    name: &[u8],
+    n: usize,
+    word: &[u8],
+    k: usize,
+    command: PeopleCommand,
+    other: Command,
+) -> Command
+    ensures { λ r. ⌜ r ≡ when (isForm (now (name .entry)) n (now (word .entry)) k) (People command) other ⌝ }
+{
+    row(name, n, word, k, Command::People(command), other)
+}
+
+fn controller_row(name: &[u8], n: usize, other: Command) -> Command
+    ensures { λ r. ⌜ r ≡ pick controllerRows (now (name .entry)) n other ⌝ }
+{
+    let no = chip(name, n, b"grant", 0, ChipCommand::Grant, other);
+    let no = chip(name, n, b"reset", 0, ChipCommand::Reset, no);
+    let no = chip(name, n, b"pins", 1, ChipCommand::Pins, no);
+    let no = chip(name, n, b"read", 1, ChipCommand::Read, no);
+    let no = chip(name, n, b"write", 2, ChipCommand::Write, no);
+    let no = chip(name, n, b"fresh", 0, ChipCommand::Fresh, no);
+    let no = chip(name, n, b"state", 1, ChipCommand::SetState, no);
+    chip(name, n, b"state", 0, ChipCommand::State, no)
+}
+
+fn array_row(name: &[u8], n: usize, other: Command) -> Command
+    ensures { λ r. ⌜ r ≡ pick arrayRows (now (name .entry)) n other ⌝ }
+{
+    let no = array(name, n, b"out", 2, ArrayCommand::Out, other);
+    let no = array(name, n, b"room", 2, ArrayCommand::Room, no);
+    let no = array(name, n, b"fill", 2, ArrayCommand::Fill, no);
+    let no = array(name, n, b"feed", 1, ArrayCommand::Feed, no);
+    let no = array(name, n, b"peek", 2, ArrayCommand::Peek, no);
+    let no = array(name, n, b"poke", 2, ArrayCommand::Poke, no);
+    array(name, n, b"memory", 1, ArrayCommand::Memory, no)
+}
+
+fn service_row(name: &[u8], n: usize, other: Command) -> Command
+    ensures { λ r. ⌜ r ≡ pick serviceRows (now (name .entry)) n other ⌝ }
+{
+    let no = chip(name, n, b"load", 1, ChipCommand::Load, other);
+    let no = chip(name, n, b"sheet", 1, ChipCommand::Sheet, no);
+    let no = service(name, n, b"round", 1, ServiceCommand::Round, no);
+    service(name, n, b"run", 2, ServiceCommand::Run, no)
+}
+
+fn people_row(name: &[u8], n: usize, other: Command) -> Command
+    ensures { λ r. ⌜ r ≡ pick peopleRows (now (name .entry)) n other ⌝ }
+{
+    let no = array(name, n, b"empty", 0, ArrayCommand::Empty, other);
+    let no = array(name, n, b"queue", 0, ArrayCommand::Queue, no);
+    let no = array(name, n, b"dump", 2, ArrayCommand::Dump, no);
+    let no = people(name, n, b"help", 1, PeopleCommand::HelpOn, no);
+    let no = people(name, n, b"help", 0, PeopleCommand::Help, no);
+    people(name, n, b"show", 0, PeopleCommand::Show, no)
+}
+
+pub fn command_of(name: &[u8], n: usize) -> Command
+    ensures { λ r. ⌜ r ≡ commandOf (now (name .entry)) n ⌝ }
+{
+    if name.len() == 0 {
+        return Command::Nothing;
+    }
+    let no = people_row(name, n, Command::Unknown);
+    let no = service_row(name, n, no);
+    let no = array_row(name, n, no);
+    controller_row(name, n, no)
 }

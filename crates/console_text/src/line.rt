@@ -3,7 +3,7 @@ ghost use mathlib.Core.Path.{_≡_};
 ghost use Prim.Native.Nat.{_+_, _≤_};
 ghost use lib.ListN.{length, drop};
 ghost use Rattle.console_text.specs.Text.{same as Text·same};
-ghost use Rattle.console_text.specs.Lines.{run, isBlank, isLetter, isSaid, wordAt, endOf, saidIn};
+ghost use Rattle.console_text.specs.Lines.{run, isBlank, isLetter, isSaid, wordAt, oneIf, wordsIn, endOf, saidIn};
 
 // Whether two words are the same.
 pub fn same(a: &[u8], b: &[u8]) -> bool
@@ -70,6 +70,37 @@ pub fn word(s: &[u8], at: usize) -> Span
     let from = blanks_end(s, at);
     let to = word_end(s, from);
     Span { from, to }
+}
+
+// 1 where there is a word.
+fn one_if(w: Span) -> usize
+    ensures { λ r. ⌜ (r ≡ oneIf w) × (r ≤ 1) ⌝ }
+{
+    if w.from < w.to { 1 } else { 0 }
+}
+
+// A line's first word, the two behind it, and how many there are behind the first; 3 stands for more than two.
+pub struct Words {
+    pub name: Span,
+    pub one: Span,
+    pub two: Span,
+    pub count: usize,
+}
+
+pub fn words_in(s: &[u8]) -> Words
+    ensures { λ r. ⌜ (r ≡ wordsIn (now (s .entry))) × (r .name .from ≤ r .name .to) × (r .name .to ≤ length (now (s .entry))) × (r .one .from ≤ r .one .to) × (r .one .to ≤ length (now (s .entry))) × (r .two .from ≤ r .two .to) × (r .two .to ≤ length (now (s .entry))) ⌝ }
+{
+    let name = word(s, 0);
+    let one = word(s, name.to);
+    let two = word(s, one.to);
+    let more = word(s, two.to);
+    let count = one_if(one) + one_if(two) + one_if(more);
+    Words {
+        name,
+        one,
+        two,
+        count,
+    }
 }
 
 // The length of a line without a carriage return at its end.

@@ -2,7 +2,7 @@ use Rattle.console_text.proofs.HexLaws.{bytes-length}
 use lib.ListN.{length}
 use Prim.Native.Nat.{_+_, _-_, _/_}
 use Rattle.console_arrays.proofs.ArrayLaws.{queue-full, queue-grown}
-use Rattle.console_arrays.specs.Arrays.{changed, held, feedOf}
+use Rattle.console_arrays.specs.Arrays.{shown, held, feedOf}
 use Rattle.words.specs.Choice.{when}
 use borrow.Author.Tests.{not-true, not-false, leb-true}
 use mathlib.Core.Path.{sym, ap, _∙_}
@@ -16,7 +16,7 @@ unfolding feedOf when
 returns c =
     let at-error = c .before .before in let at-if1 = at-error .before .before in let at-is-bytes = at-if1 .before in
     let entry = at-is-bytes .before .before .before .before in
-    let s = entry .args in record { holds = simp (sym (at-is-bytes .is-bytes .ensures) ∙ not-true _ (at-if1 .if1 .taken)) (ap (changed (held (s .queue .now) (s .from) (s .to))) (at-error .error .ensures)); ordered = entry .pre .0; inside = entry .pre .1 }
+    let s = entry .args in record { holds = simp (sym (at-is-bytes .is-bytes .ensures) ∙ not-true _ (at-if1 .if1 .taken)) (ap (shown (held (s .queue .now) (s .from) (s .to))) (at-error .error .ensures)); ordered = entry .pre .0; inside = entry .pre .1 }
 
 returns-2 : tie.Need-returns-2
 unfolding feedOf when

@@ -1,5 +1,5 @@
 use Rattle.console_text.proofs.NumberLaws.{number-fits}
-use Rattle.console_arrays.specs.Arrays.{changed, held}
+use Rattle.console_arrays.specs.Arrays.{shown, held}
 use Rattle.console_chip.specs.Answers.{numbered}
 use mathlib.Core.Path.{sym, ap, _∙_}
 use native.Mathlib.Omega.{arith}
@@ -23,14 +23,14 @@ returns-2 c =
     let at-error = c .before .before in let at-enum-told = at-error .before .before in let at-size = at-enum-told .before .before .before in
     let at-number-of2 = at-size .before .before in let at-number-of = at-number-of2 .before in
     let entry = at-number-of .before .before .before .before .before in
-    let s = entry .args in record { holds = simp (sym (at-number-of .number-of .ensures) ∙ at-size .size .given .1, sym (at-number-of2 .number-of2 .ensures) ∙ at-enum-told .enum-told .given .1) (ap (changed (held (s .queue .now) (s .from) (s .to))) (at-error .error .ensures)); ordered = entry .pre .0; inside = entry .pre .1 }
+    let s = entry .args in record { holds = simp (sym (at-number-of .number-of .ensures) ∙ at-size .size .given .1, sym (at-number-of2 .number-of2 .ensures) ∙ at-enum-told .enum-told .given .1) (ap (shown (held (s .queue .now) (s .from) (s .to))) (at-error .error .ensures)); ordered = entry .pre .0; inside = entry .pre .1 }
 
 returns-3 : tie.Need-returns-3
 unfolding numbered
 returns-3 c =
     let at-error2 = c .before .before in let at-enum-told2 = at-error2 .before .before in let at-number-of = at-enum-told2 .before .before .before in
     let entry = at-number-of .before .before .before .before .before in
-    let s = entry .args in record { holds = simp (sym (at-number-of .number-of .ensures) ∙ at-enum-told2 .enum-told2 .given .1) (ap (changed (held (s .queue .now) (s .from) (s .to))) (at-error2 .error2 .ensures)); ordered = entry .pre .0; inside = entry .pre .1 }
+    let s = entry .args in record { holds = simp (sym (at-number-of .number-of .ensures) ∙ at-enum-told2 .enum-told2 .given .1) (ap (shown (held (s .queue .now) (s .from) (s .to))) (at-error2 .error2 .ensures)); ordered = entry .pre .0; inside = entry .pre .1 }
 
 pub fill-spec : {M : Type 1} → statement M
 fill-spec = tie.close (tie.spec (search needs) (search needs) (search needs) (search needs) (search needs) cast-fill-bytes-2 (search needs)

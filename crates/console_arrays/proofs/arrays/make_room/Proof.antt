@@ -1,6 +1,6 @@
 use Rattle.console_text.proofs.TextLaws.{stands-in-front}
 use Rattle.console_text.proofs.NumberLaws.{number-fits}
-use Rattle.console_arrays.specs.Arrays.{changed}
+use Rattle.console_arrays.specs.Arrays.{shown}
 use Rattle.console_chip.specs.Answers.{numbered}
 use lib.ListN.{length, take, replicate, length-replicate}
 use mathlib.Core.Path.{_≡_, refl, sym, ap, _∙_}
@@ -24,7 +24,7 @@ returns c =
     let fits : n ≤ 70000 = number-fits 70000 n _ (sym (at-number-of .number-of .ensures) ∙ at-length .length .given .1) in
     let size : length (replicate n (at-said .said .given .0 .0)) ≡ n = length-replicate {A = ℕ} n (at-said .said .given .0 .0) in
     let front : take n (at-copies .copies .last .0) ≡ replicate n (at-said .said .given .0 .0) = ap (λ (k : ℕ). take k (at-copies .copies .last .0)) (sym size) ∙ stands-in-front _ room _ _ (at-copies .copies .ensures) (omega arith) in
-    record { holds = simp (sym (at-number-of .number-of .ensures) ∙ at-length .length .given .1, sym (at-number-of2 .number-of2 .ensures) ∙ at-said .said .given .1, front) (ap (changed (replicate n (at-said .said .given .0 .0))) (at-ok .ok .ensures)); behind = simp (sym (at-number-of .number-of .ensures) ∙ at-length .length .given .1, sym (at-number-of2 .number-of2 .ensures) ∙ at-said .said .given .1) refl; ordered = omega arith; inside = omega arith }
+    record { holds = simp (sym (at-number-of .number-of .ensures) ∙ at-length .length .given .1, sym (at-number-of2 .number-of2 .ensures) ∙ at-said .said .given .1, front) (ap (shown (replicate n (at-said .said .given .0 .0))) (at-ok .ok .ensures)); behind = simp (sym (at-number-of .number-of .ensures) ∙ at-length .length .given .1, sym (at-number-of2 .number-of2 .ensures) ∙ at-said .said .given .1) refl; ordered = omega arith; inside = omega arith }
 
 returns-2 : tie.Need-returns-2
 unfolding numbered
@@ -32,14 +32,14 @@ returns-2 c =
     let at-error = c .before .before in let at-enum-told = at-error .before .before in let at-length = at-enum-told .before .before .before in
     let at-number-of2 = at-length .before .before in let at-number-of = at-number-of2 .before in
     let entry = at-number-of .before .before .before .before .before in
-    record { holds = simp (sym (at-number-of .number-of .ensures) ∙ at-length .length .given .1, sym (at-number-of2 .number-of2 .ensures) ∙ at-enum-told .enum-told .given .1) (ap (changed (take (entry .args .size) (entry .args .room .now))) (at-error .error .ensures)); behind = simp (sym (at-number-of .number-of .ensures) ∙ at-length .length .given .1, sym (at-number-of2 .number-of2 .ensures) ∙ at-enum-told .enum-told .given .1) refl; ordered = search needs; inside = search needs }
+    record { holds = simp (sym (at-number-of .number-of .ensures) ∙ at-length .length .given .1, sym (at-number-of2 .number-of2 .ensures) ∙ at-enum-told .enum-told .given .1) (ap (shown (take (entry .args .size) (entry .args .room .now))) (at-error .error .ensures)); behind = simp (sym (at-number-of .number-of .ensures) ∙ at-length .length .given .1, sym (at-number-of2 .number-of2 .ensures) ∙ at-enum-told .enum-told .given .1) refl; ordered = search needs; inside = search needs }
 
 returns-3 : tie.Need-returns-3
 unfolding numbered
 returns-3 c =
     let at-error2 = c .before .before in let at-enum-told2 = at-error2 .before .before in let at-number-of = at-enum-told2 .before .before .before in
     let entry = at-number-of .before .before .before .before .before in
-    record { holds = simp (sym (at-number-of .number-of .ensures) ∙ at-enum-told2 .enum-told2 .given .1) (ap (changed (take (entry .args .size) (entry .args .room .now))) (at-error2 .error2 .ensures)); behind = simp (sym (at-number-of .number-of .ensures) ∙ at-enum-told2 .enum-told2 .given .1) refl; ordered = search needs; inside = search needs }
+    record { holds = simp (sym (at-number-of .number-of .ensures) ∙ at-enum-told2 .enum-told2 .given .1) (ap (shown (take (entry .args .size) (entry .args .room .now))) (at-error2 .error2 .ensures)); behind = simp (sym (at-number-of .number-of .ensures) ∙ at-enum-told2 .enum-told2 .given .1) refl; ordered = search needs; inside = search needs }
 
 pub make-room-spec : {M : Type 1} → statement M
 make-room-spec = tie.close (tie.spec (search needs) (search needs) (search needs) (search needs) (search needs) cast-copies-2 (search needs)

@@ -1,7 +1,7 @@
 use mathlib.Core.Path.{refl}
 use borrow.Author.Tests.{lt-ltb, le-ltb}
 use Rattle.words.specs.Choice.{when}
-use Rattle.console_commands.specs.Holding.{further}
+use Rattle.console_commands.specs.Doings.{further}
 use borrow.Author.Needs.{needs}
 use Rattle.console_commands.proofs.services.further.Statement.{statement}
 use Rattle.console_commands.proofs.services.further.Tie as tie

@@ -1,0 +1,62 @@
+use Rattle.console_chip.proofs.AnswerLaws.{said-so}
+use Rattle.console_chip.specs.Answers.{saying}
+use Rattle.console_commands.specs.Doings.{chipReply}
+use Rattle.words.proofs.ChoiceLaws.{when-hit}
+use borrow.Author.Tests.{le-leb}
+use mathlib.Core.Path.{ap, _∙_}
+use borrow.Author.Needs.{needs}
+use Rattle.console_commands.proofs.chip.chip_said.Statement.{statement}
+use Rattle.console_commands.proofs.chip.chip_said.Tie as tie
+
+returns : tie.Need-returns
+unfolding chipReply
+returns c = simp (c .before .before .before .before .enum-told .given .1) (said-so _ _ _ (c .before .before .state .ensures))
+
+returns-2 : tie.Need-returns-2
+unfolding chipReply
+returns-2 c = simp (c .before .before .before .before .enum-told2 .given .1) (c .before .before .set-state .ensures)
+
+returns-3 : tie.Need-returns-3
+unfolding chipReply
+returns-3 c = simp (c .before .before .before .before .enum-told3 .given .1) (c .before .before .make-fresh .ensures)
+
+returns-4 : tie.Need-returns-4
+unfolding chipReply
+returns-4 c = simp (c .before .before .before .before .enum-told4 .given .1) (c .before .before .write .ensures)
+
+returns-5 : tie.Need-returns-5
+unfolding chipReply
+returns-5 c = simp (c .before .before .before .before .enum-told5 .given .1) (c .before .before .read .ensures)
+
+returns-6 : tie.Need-returns-6
+unfolding chipReply
+returns-6 c = simp (c .before .before .before .before .enum-told6 .given .1) (c .before .before .pins .ensures)
+
+returns-7 : tie.Need-returns-7
+unfolding chipReply
+returns-7 c = simp (c .before .before .before .before .enum-told7 .given .1) (c .before .before .reset .ensures)
+
+returns-8 : tie.Need-returns-8
+unfolding chipReply
+returns-8 c = simp (c .before .before .before .before .enum-told8 .given .1) (c .before .before .grant .ensures)
+
+returns-9 : tie.Need-returns-9
+unfolding chipReply
+returns-9 c =
+    let at-sheet = c .before .before .before .before in let at-enum-told9 = at-sheet .before .before .before in
+    let at-pre = at-enum-told9 .before .before .before .before .before .before in
+    simp (at-enum-told9 .enum-told9 .given .1) (at-sheet .sheet .ensures ∙ ap (saying _) (when-hit _ _ _ (le-leb _ _ (at-pre .pre .0))))
+
+returns-10 : tie.Need-returns-10
+unfolding chipReply
+returns-10 c =
+    let at-load = c .before .before .before .before in let at-enum-told10 = at-load .before .before .before in
+    let at-pre = at-enum-told10 .before .before .before .before .before .before in
+    simp (at-enum-told10 .enum-told10 .given .1) (at-load .load .ensures ∙ ap (saying _) (when-hit _ _ _ (le-leb _ _ (at-pre .pre .1))))
+
+pub chip-said-spec : {M : Type 1} → statement M
+chip-said-spec = tie.close (tie.spec (search needs) (search needs) (search needs) (search needs) (search needs) (search needs) (search needs)
+    (search needs) (search needs) (search needs) (search needs) (search needs) (search needs) (search needs) (search needs) (search needs)
+    (search needs) (search needs) (search needs) (search needs) (search needs) returns (search needs) returns-2 (search needs) returns-3
+    (search needs) returns-4 (search needs) returns-5 (search needs) returns-6 (search needs) returns-7 (search needs) returns-8 (search needs)
+    (search needs) returns-9 (search needs) (search needs) returns-10)

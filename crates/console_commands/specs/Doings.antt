@@ -1,0 +1,145 @@
+-- What a line does, command by command: what is held after it, and its answer.
+use Prim.Native.Nat.{ℕ, _+_, _-_}
+use mathlib.Core.Bool.{Bool, true, false}
+use mathlib.Core.List.{List, [], _++_}
+use lib.Dec.{eqb, ltb}
+use lib.ListN.{length, take, drop}
+use Rattle.words.specs.Choice.{when}
+use Rattle.am9517.specs.State.{fresh}
+use Rattle.am9517.specs.Answers.{resetOf, grantOf}
+use Rattle.am9517.specs.declared.Controller.{Controller}
+use Rattle.console_text.specs.Text.{codes}
+use Rattle.console_text.specs.Lines.{cut, wordsIn}
+use Rattle.console_text.specs.Commands.{commandOf}
+use Rattle.console_text.specs.declared.line.Words.{Words}
+use Rattle.console_text.specs.declared.forms.Command.{Command}
+use Rattle.console_text.specs.declared.forms.Command.the-variants.{Nothing, Chip, Arrays, Services, People, Unknown}
+use Rattle.console_text.specs.declared.forms.ChipCommand.{ChipCommand}
+use Rattle.console_text.specs.declared.forms.ChipCommand.the-variants.{State, SetState, Fresh, Write, Read, Pins, Reset, Grant, Sheet, Load}
+use Rattle.console_text.specs.declared.forms.ArrayCommand.{ArrayCommand}
+use Rattle.console_text.specs.declared.forms.ArrayCommand.the-variants.{Memory, Poke, Peek, Feed, Fill, Room, Out, Dump, Queue, Empty}
+use Rattle.console_text.specs.declared.forms.ServiceCommand.{ServiceCommand}
+use Rattle.console_text.specs.declared.forms.ServiceCommand.the-variants.{Run, Round}
+use Rattle.console_chip.specs.Answers.{okText, errorText, bytesAnswer, Reply, reply, outcomeReply}
+use Rattle.console_chip.specs.Control.{stateText, stateReply, writeReply, readReply, pinsReply, sheetReply, loadReply}
+use Rattle.console_arrays.specs.Arrays.{lentOf, lentText, peekText, Changed, changed, pokeOf, feedOf, fillOf, roomOf, positionOf}
+use Rattle.console_arrays.specs.Services.{Service, runReply, roundReply}
+use Rattle.console_dump.specs.Dump.{dumpOf}
+use Rattle.console_commands.specs.Holding.{Held, Said, said}
+
+-- On the controller: the next one, and the answer.
+unfoldable pub chipReply : ChipCommand → Controller → List ℕ → List ℕ → Reply
+chipReply State c one two = reply c (stateText c)
+chipReply SetState c one two = stateReply c one
+chipReply Fresh c one two = reply fresh okText
+chipReply Write c one two = writeReply c one two
+chipReply Read c one two = readReply c one
+chipReply Pins c one two = pinsReply c one
+chipReply Reset c one two = outcomeReply false (resetOf c)
+chipReply Grant c one two = outcomeReply true (grantOf c)
+chipReply Sheet c one two = sheetReply c one
+chipReply Load c one two = loadReply c one
+
+abbrev pub controlled : Held → Reply → Said
+controlled h r =
+    said
+    (record { controller = r .controller; memory = h .memory; lent = h .lent; queue = h .queue; room = h .room; written = h .written })
+    (r .text)
+
+-- On the memory, the queue and the room: what is held with another one, and the answer.
+abbrev pub lending : Held → ℕ → List ℕ → Said
+lending h n text =
+    said
+    (record { controller = h .controller; memory = h .memory; lent = n; queue = h .queue; room = h .room; written = h .written })
+    text
+
+abbrev pub remembering : Held → Changed → Said
+remembering h c =
+    said
+    (record { controller = h .controller; memory = c .array; lent = h .lent; queue = h .queue; room = h .room; written = h .written })
+    (c .text)
+
+abbrev pub queueing : Held → Changed → Said
+queueing h c =
+    said
+    (record { controller = h .controller; memory = h .memory; lent = h .lent; queue = c .array; room = h .room; written = h .written })
+    (c .text)
+
+abbrev pub rooming : Held → Changed → ℕ → Said
+rooming h c position =
+    said
+    (record { controller = h .controller; memory = h .memory; lent = h .lent; queue = h .queue; room = c .array; written = position })
+    (c .text)
+
+unfoldable pub arraysDo : ArrayCommand → List ℕ → List ℕ → Held → Said
+arraysDo Memory one two h = lending h (lentOf (h .lent) one) (lentText one)
+arraysDo Poke one two h = remembering h (pokeOf (h .memory) one two)
+arraysDo Peek one two h = said h (peekText (h .memory) one two)
+arraysDo Feed one two h = queueing h (feedOf (h .queue) one)
+arraysDo Fill one two h = queueing h (fillOf (h .queue) one two)
+arraysDo Room one two h = rooming h (roomOf (h .room) one two) (positionOf (h .written) one two)
+arraysDo Out one two h = said h (peekText (h .room) one two)
+arraysDo Dump one two h = said h (dumpOf (h .memory) one two)
+arraysDo Queue one two h = said h (bytesAnswer (h .queue))
+arraysDo Empty one two h = queueing h (changed [] okText)
+
+-- A service on what is lent to it: memory, device bytes and room.
+unfoldable pub serviceReply : ServiceCommand → Controller → List ℕ → List ℕ → List ℕ → List ℕ → List ℕ → Service
+serviceReply Run c memory device room one two = runReply c memory device room one two
+serviceReply Round c memory device room one two = roundReply c memory device room one
+
+-- a place n further on, and not past the last
+unfoldable pub further : ℕ → ℕ → ℕ → ℕ
+further from n last = when (ltb last from) from (when (ltb (last - from) n) last (from + n))
+
+-- "Bytes used leave the queue; bytes written go to the room from its write position on, which moves behind them"
+abbrev pub serviced : Held → Service → Said
+serviced h s =
+    said
+    (record {
+      controller = s .controller;
+      memory = s .memory ++ drop (h .lent) (h .memory);
+      lent = h .lent;
+      queue = drop (s .used) (h .queue);
+      room = take (h .written) (h .room) ++ s .room;
+      written = further (h .written) (s .written) (length (h .room));
+    })
+    (s .text)
+
+-- "the first `memory` bytes are lent to runs and rounds"; the queue is lent, and the room from its write position on
+abbrev pub servicesDo : ServiceCommand → List ℕ → List ℕ → Held → Said
+servicesDo k one two h =
+    serviced h (serviceReply k (h .controller) (take (h .lent) (h .memory)) (h .queue) (drop (h .written) (h .room)) one two)
+
+-- All commands; `shown` is what `show` or `help` tells.
+unfoldable pub does : List ℕ → Command → List ℕ → List ℕ → Held → Said
+does shown Nothing one two h = said h []
+does shown (Chip k) one two h = controlled h (chipReply k (h .controller) one two)
+does shown (Arrays k) one two h = arraysDo k one two h
+does shown (Services k) one two h = servicesDo k one two h
+does shown (People k) one two h = said h shown
+does shown Unknown one two h = said h errorText
+
+-- an answer is a line; a line of no words, that is of no name, has none
+unfoldable pub ending : List ℕ → List ℕ
+ending name = when (eqb (length name) 0) [] (codes "\n")
+
+abbrev pub ended : List ℕ → Said → Said
+ended name s = said (s .holding) (s .text ++ ending name)
+
+-- "error, nothing changed"
+abbrev pub erred : Held → Said
+erred h = said h (errorText ++ codes "\n")
+
+abbrev pub wordsDo : List ℕ → List ℕ → Words → Held → Said
+wordsDo shown line w h =
+    let name = cut line (w .name) in
+    ended name (does shown (commandOf name (w .count)) (cut line (w .one)) (cut line (w .two)) h)
+
+-- what a line says, without comment and carriage return: "A line may be as long as 200,000 characters."
+unfoldable pub lineOf : List ℕ → List ℕ → Held → Said
+lineOf shown line h = when (ltb 200000 (length line)) (erred h) (wordsDo shown line (wordsIn line) h)
+
+-- asked of a console that doesn't stand, too
+unfoldable pub executeOf : List ℕ → Bool → Held → List ℕ → Said
+executeOf line standing h shown = when standing (lineOf shown line h) (erred h)

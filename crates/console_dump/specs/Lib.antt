@@ -1,0 +1,2 @@
+-- Memory as lines of address, bytes and letters.
+pub mod Dump

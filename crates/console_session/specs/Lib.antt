@@ -1,0 +1,2 @@
+-- A script: its lines, and what they do.
+pub mod Script
