@@ -1,47 +1,162 @@
-// The commands, one line each, and the refusal numbers in document 01's words.
+// The commands, a row each with form and meaning, an example of each, and the refusal numbers in document 01's words.
+use crate::rows::keep;
 use console_text::page::text;
 
-fn help_on_controller(out: &mut [u8], at: usize) -> usize {
+fn rows_of_controller(out: &mut [u8], at: usize) -> usize {
     text(
         out,
         at,
-        b"state            the state's 48 bytes
-state HEX        take 48 bytes as the state, with no range check
-fresh            a fresh state
-write REG BYTE   write a register, 0 to 15
-read REG         read a register
-pins P           set the DREQ pins, 0 to 15: bit 0 is channel 0's
-reset            reset
-grant            grant the first entitled channel a service
-run LIMIT EOP    run it: at most LIMIT transfers, transfer EOP meets EOP, 0 none
-round K          begin up to K services, grant then run
-sheet N          a sheet at the end of N bytes 0xee, N at most 70000
-load HEX         read the sheet at the end of these bytes
+        b"state               the state's 48 bytes
+state HEX           take 48 bytes as the state, with no range check
+fresh               a fresh state
+write REG BYTE      write a register, 0 to 15
+read REG            read a register
+pins P              set the DREQ pins, 0 to 15: bit 0 is channel 0's
+reset               reset
+grant               grant the first entitled channel a service
+run LIMIT EOP       run it: at most LIMIT transfers, transfer EOP meets EOP, 0 none
+round K             begin up to K services, grant then run
+sheet N             a sheet at the end of N bytes 0xee, N at most 70000
+load HEX            read the sheet at the end of these bytes
 ",
     )
 }
 
-fn help_on_arrays(out: &mut [u8], at: usize) -> usize {
+fn rows_of_arrays(out: &mut [u8], at: usize) -> usize {
     text(
         out,
         at,
-        b"memory N         lend the first N bytes of memory, at most 65537
-poke ADDR HEX    put bytes into memory
-peek ADDR N      show N bytes of memory
-feed HEX         append bytes to the device's queue, at most 70000 in all
-fill N BYTE      append N copies of a byte to it
-room N BYTE      a new device room of N bytes, at most 70000
-out ADDR N       show N bytes of the room
-show             the state as a table
-help             this
-help refusals    what the refusal numbers mean
-Numbers are decimal or 0x hexadecimal. HEX: two digits a byte, or - for none.",
+        b"memory N            lend the first N bytes of memory, at most 65537
+poke ADDR HEX       put bytes into memory
+peek ADDR N         show N bytes of memory
+feed HEX            append bytes to the device's queue, at most 70000 in all
+fill N BYTE         append N copies of a byte to it
+room N BYTE         a new device room of N bytes, at most 70000
+out ADDR N          show N bytes of the room
+",
     )
 }
 
+fn rows_of_files(out: &mut [u8], at: usize) -> usize {
+    text(
+        out,
+        at,
+        b"f.poke ADDR FILE    put the bytes of a file into memory
+f.peek ADDR N FILE  write N bytes of memory to a file
+f.feed FILE         append the bytes of a file to the device's queue
+f.out ADDR N FILE   write N bytes of the room to a file
+f.sheet FILE        store the state as a sheet file of 56 bytes
+f.load FILE         read the sheet at the end of a file
+",
+    )
+}
+
+fn rows_of_people(out: &mut [u8], at: usize) -> usize {
+    text(
+        out,
+        at,
+        b"show                the state as a table
+help                this
+help COMMAND        its form, and an example
+help refusals       what the refusal numbers mean
+quit                leave
+exit                leave, too
+",
+    )
+}
+
+// A row a command; a newline ends each.
+pub fn help_rows(out: &mut [u8], at: usize) -> usize {
+    let next = rows_of_controller(out, at);
+    let next = rows_of_arrays(out, next);
+    let next = rows_of_files(out, next);
+    rows_of_people(out, next)
+}
+
 pub fn help(out: &mut [u8], at: usize) -> usize {
-    let next = help_on_controller(out, at);
-    help_on_arrays(out, next)
+    let next = help_rows(out, at);
+    text(
+        out,
+        next,
+        b"Numbers are decimal, or hexadecimal behind 0x; the 85h of comments is accepted nowhere.
+HEX: two digits a byte, or - for none. FILE: a name without blanks and #.",
+    )
+}
+
+fn examples_of_controller(out: &mut [u8], at: usize) -> usize {
+    text(
+        out,
+        at,
+        b"state               # and with 96 digits behind it, the state is set
+fresh
+write 0xb 0x85      # the mode of channel 1: block, write, up
+read 8              # status
+pins 2              # channel 1's line is high, the others are low
+reset
+grant
+run 65536 0         # to the service's end, no EOP
+round 600           # until nobody asks any more
+sheet 56            # what the pier stores
+load 0000000000000000000000000000000000000000000000000000000000000000000000000000000f0000000300000000010030001200444d
+",
+    )
+}
+
+fn examples_of_others(out: &mut [u8], at: usize) -> usize {
+    text(
+        out,
+        at,
+        b"memory 65536
+poke 0x100 0101000101a7
+peek 0x100 6
+feed 0101000101a7
+fill 512 0x90
+room 16 0xff        # 16 bytes for a device, each ff
+out 0 16
+f.poke 0x100 hold.bin
+f.peek 0x100 12 hold.bin
+f.feed sector.bin
+f.out 0 16 printed.bin
+f.sheet pier.sheet  # the old file stays until the new one is whole
+f.load pier.sheet
+show
+help poke
+quit
+exit
+",
+    )
+}
+
+// One example a command.
+fn example_rows(out: &mut [u8], at: usize) -> usize {
+    let next = examples_of_controller(out, at);
+    examples_of_others(out, next)
+}
+
+// The example of a command, where it has one.
+fn example_on(word: &[u8], out: &mut [u8], at: usize) -> usize {
+    let next = text(out, at, b"for example:  ");
+    let end = example_rows(out, next);
+    let end = keep(out, next, end, word);
+    if end <= next {
+        return at;
+    }
+    end
+}
+
+// The rows of one command, and its example; nothing where there is no such command.
+pub fn help_on(word: &[u8], out: &mut [u8], at: usize) -> usize {
+    let end = help_rows(out, at);
+    let next = keep(out, at, end, word);
+    if next <= at {
+        return at;
+    }
+    let end = example_on(word, out, next);
+    // the newline behind an answer is its caller's
+    if end <= at {
+        return at;
+    }
+    end - 1
 }
 
 pub fn help_refusals(out: &mut [u8], at: usize) -> usize {

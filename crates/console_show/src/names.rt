@@ -1,5 +1,4 @@
-// Single things in words: a byte, a set of channels, the parts of a mode and of a command.
-use console_text::page::byte;
+// Single things in words: a byte, the parts of a mode and of a command.
 use console_text::page::hex;
 use console_text::page::text;
 use words::bits::bit;
@@ -29,42 +28,24 @@ pub(crate) fn base_and_current(out: &mut [u8], at: usize, base: u16, current: u1
     let next = hex_word(out, at, base);
     let next = text(out, next, b" ");
     let next = hex_word(out, next, current);
-    text(out, next, b"     ")
-}
-
-// The byte where the test holds.
-fn byte_if(out: &mut [u8], at: usize, test: bool, b: u8) -> usize {
-    if test {
-        return byte(out, at, b);
-    }
-    at
-}
-
-// The channels of a set of four bits, or -.
-pub(crate) fn channels(out: &mut [u8], at: usize, name: &[u8], set: u8) -> usize {
-    let next = text(out, at, name);
-    let next = byte_if(out, next, bit(set, 0) == 1, b'0');
-    let next = byte_if(out, next, bit(set, 1) == 1, b'1');
-    let next = byte_if(out, next, bit(set, 2) == 1, b'2');
-    let next = byte_if(out, next, bit(set, 3) == 1, b'3');
-    byte_if(out, next, set % 16 == 0, b'-')
+    text(out, next, b"  ")
 }
 
 fn service_name(out: &mut [u8], at: usize, mode: u8) -> usize {
     match mode / 64 {
-        0 => text(out, at, b" demand, "),
-        1 => text(out, at, b" single, "),
-        2 => text(out, at, b" block, "),
-        _ => text(out, at, b" cascade, "),
+        0 => text(out, at, b" demand "),
+        1 => text(out, at, b" single "),
+        2 => text(out, at, b" block "),
+        _ => text(out, at, b" cascade "),
     }
 }
 
 fn type_name(out: &mut [u8], at: usize, mode: u8) -> usize {
     match mode / 4 % 4 {
-        0 => text(out, at, b"verify, "),
-        1 => text(out, at, b"write, "),
-        2 => text(out, at, b"read, "),
-        _ => text(out, at, b"type 11, "),
+        0 => text(out, at, b"verify "),
+        1 => text(out, at, b"write "),
+        2 => text(out, at, b"read "),
+        _ => text(out, at, b"type-11 "),
     }
 }
 
@@ -73,7 +54,7 @@ pub(crate) fn mode_name(out: &mut [u8], at: usize, mode: u8) -> usize {
     let next = service_name(out, next, mode);
     let next = type_name(out, next, mode);
     let next = either(out, next, bit(mode, 5) == 1, b"down", b"up");
-    either(out, next, bit(mode, 4) == 1, b", autoinitialize", b"")
+    either(out, next, bit(mode, 4) == 1, b" auto", b"")
 }
 
 fn order_and_timing(out: &mut [u8], at: usize, command: u8) -> usize {

@@ -1,6 +1,5 @@
-// The state as a table of 80 columns, and what the console holds beside it.
+// The state as a table, a row a channel, and what the console holds beside it.
 use crate::names::base_and_current;
-use crate::names::channels;
 use crate::names::command_name;
 use crate::names::either;
 use crate::names::hex_byte;
@@ -11,24 +10,62 @@ use console_text::page::byte;
 use console_text::page::decimal;
 use console_text::page::text;
 use words::bits::bit;
+use words::bits::is_set;
 
-fn channel_row(out: &mut [u8], at: usize, name: &[u8], c: Channel) -> usize {
-    let next = text(out, at, name);
-    let next = base_and_current(out, next, c.base_address, c.address);
-    let next = base_and_current(out, next, c.base_count, c.count);
-    let next = mode_name(out, next, c.mode);
+// What of a channel is one bit each: a word where it is so, else -.
+fn flags(
+    out: &mut [u8],
+    at: usize,
+    is_active: bool,
+    is_masked: bool,
+    is_requested: bool,
+    is_tc: bool,
+    is_entitled: bool,
+) -> usize {
+    let next = either(out, at, is_active, b"active ", b"-      ");
+    let next = either(out, next, is_masked, b"set  ", b"-    ");
+    let next = either(out, next, is_requested, b"set     ", b"-       ");
+    let next = either(out, next, is_tc, b"set ", b"-   ");
+    either(out, next, is_entitled, b"yes      ", b"-        ")
+}
+
+fn registers(out: &mut [u8], at: usize, n: usize, channel: Channel) -> usize {
+    let next = decimal(out, at, n as u64);
+    let next = text(out, next, b"       ");
+    let next = base_and_current(out, next, channel.base_address, channel.address);
+    base_and_current(out, next, channel.base_count, channel.count)
+}
+
+fn channel_row(out: &mut [u8], at: usize, c: Controller, n: usize, channel: Channel) -> usize {
+    let is_active = c.active(n);
+    let entitled = c.entitled_set();
+    let is_masked = is_set(c.mask, n);
+    let is_requested = is_set(c.request, n);
+    let is_tc = is_set(c.tc, n);
+    let is_entitled = is_set(entitled, n);
+    let next = registers(out, at, n, channel);
+    let next = flags(
+        out,
+        next,
+        is_active,
+        is_masked,
+        is_requested,
+        is_tc,
+        is_entitled,
+    );
+    let next = mode_name(out, next, channel.mode);
     byte(out, next, b'\n')
 }
 
 fn channel_rows(out: &mut [u8], at: usize, c: Controller) -> usize {
     let first = c.channels[0];
-    let next = channel_row(out, at, b"0        ", first);
+    let next = channel_row(out, at, c, 0, first);
     let second = c.channels[1];
-    let next = channel_row(out, next, b"1        ", second);
+    let next = channel_row(out, next, c, 1, second);
     let third = c.channels[2];
-    let next = channel_row(out, next, b"2        ", third);
+    let next = channel_row(out, next, c, 2, third);
     let fourth = c.channels[3];
-    channel_row(out, next, b"3        ", fourth)
+    channel_row(out, next, c, 3, fourth)
 }
 
 fn command_rows(out: &mut [u8], at: usize, command: u8) -> usize {
@@ -50,16 +87,6 @@ fn command_rows(out: &mut [u8], at: usize, command: u8) -> usize {
     )
 }
 
-fn set_row(out: &mut [u8], at: usize, c: Controller) -> usize {
-    let next = channels(out, at, b"TC       ", c.tc);
-    let next = channels(out, next, b"    request ", c.request);
-    let next = channels(out, next, b"    mask ", c.mask);
-    let next = channels(out, next, b"    pins ", c.pins);
-    let entitled = c.entitled_set();
-    let next = channels(out, next, b"    entitled ", entitled);
-    byte(out, next, b'\n')
-}
-
 fn temporary(out: &mut [u8], at: usize, b: u8) -> usize {
     let next = text(out, at, b"    temporary ");
     let next = hex_byte(out, next, b);
@@ -67,7 +94,7 @@ fn temporary(out: &mut [u8], at: usize, b: u8) -> usize {
 }
 
 fn other_row(out: &mut [u8], at: usize, c: Controller) -> usize {
-    let next = text(out, at, b"lowest   ");
+    let next = text(out, at, b"lowest   channel ");
     let next = decimal(out, next, c.lowest as u64);
     let next = text(out, next, b"    flip-flop ");
     let next = decimal(out, next, c.flip_flop as u64);
@@ -93,8 +120,7 @@ fn service_row(out: &mut [u8], at: usize, c: Controller) -> usize {
 }
 
 fn service_rows(out: &mut [u8], at: usize, c: Controller) -> usize {
-    let next = set_row(out, at, c);
-    let next = other_row(out, next, c);
+    let next = other_row(out, at, c);
     service_row(out, next, c)
 }
 
@@ -113,7 +139,9 @@ pub fn show(c: Controller, out: &mut [u8], at: usize) -> usize {
     let next = text(
         out,
         at,
-        b"         address       count\nchannel  base current  base current  mode\n",
+        b"        address    count
+channel base now   base now   line   mask request TC  entitled mode
+",
     );
     let next = channel_rows(out, next, c);
     let next = command_rows(out, next, c.command);

@@ -1,0 +1,119 @@
+// What a refusal's number means, and what of the state it comes from.
+use am9517::Controller;
+use am9517::modes::disabled;
+use am9517::modes::is_block;
+use console_show::rows::row_end;
+use console_show::rows::row_from;
+use console_text::line::same;
+use console_text::page::decimal;
+use console_text::page::text;
+use words::bits::is_set;
+ghost use Prim.Native.Nat.{_≤_};
+ghost use lib.ListN.{length};
+
+// The columns of a refusal's row before its words.
+const NUMBER: usize = 4;
+
+// Why a line does not entitle its channel.
+fn of_line(out: &mut [u8], at: usize, is_active: bool, is_masked: bool) -> usize {
+    if !is_active {
+        return text(out, at, b": its line is not active");
+    }
+    if is_masked {
+        return text(out, at, b": its line is active, but it is masked");
+    }
+    text(out, at, b": its line is active")
+}
+
+// Why a request bit does not.
+fn of_request(out: &mut [u8], at: usize, is_requested: bool, mode: u8) -> usize {
+    if !is_requested {
+        return text(out, at, b", its request bit is clear\n");
+    }
+    if is_block(mode) {
+        return text(out, at, b", its request bit is set\n");
+    }
+    text(
+        out,
+        at,
+        b", its request bit is set, but counts in block mode only\n",
+    )
+}
+
+fn of_channel(out: &mut [u8], at: usize, c: Controller, n: usize, mode: u8) -> usize {
+    let next = text(out, at, b"    channel ");
+    let next = decimal(out, next, n as u64);
+    let active = c.active(n);
+    let next = of_line(out, next, active, is_set(c.mask, n));
+    of_request(out, next, is_set(c.request, n), mode)
+}
+
+fn of_channels(out: &mut [u8], at: usize, c: Controller) -> usize {
+    let first = c.channels[0];
+    let next = of_channel(out, at, c, 0, first.mode);
+    let second = c.channels[1];
+    let next = of_channel(out, next, c, 1, second.mode);
+    let third = c.channels[2];
+    let next = of_channel(out, next, c, 2, third.mode);
+    let fourth = c.channels[3];
+    of_channel(out, next, c, 3, fourth.mode)
+}
+
+// Why nobody is entitled.
+fn nobody(out: &mut [u8], at: usize, c: Controller) -> usize {
+    if disabled(c.command) {
+        let next = text(out, at, b"    bit 2 of the command disables all channels\n");
+        return of_channels(out, next, c);
+    }
+    of_channels(out, at, c)
+}
+
+// What of the state it comes from, where its words don't tell.
+fn cause(out: &mut [u8], at: usize, c: Controller, lent: usize, number: &[u8]) -> usize {
+    if same(number, b"6") {
+        return nobody(out, at, c);
+    }
+    if same(number, b"3") {
+        let next = text(out, at, b"    the service is channel ");
+        let next = decimal(out, next, c.serving as u64);
+        return text(out, next, b"'s: run it to its end\n");
+    }
+    if same(number, b"7") {
+        let next = text(out, at, b"    lent are ");
+        let next = decimal(out, next, lent as u64);
+        return text(
+            out,
+            next,
+            b" bytes: memory 65536 lends as many as it takes\n",
+        );
+    }
+    at
+}
+
+fn meaning(out: &mut [u8], at: usize, rows: &[u8], from: usize) -> usize
+    requires { ⌜ from ≤ length (now rows) ⌝ }
+{
+    let end = row_end(rows, from);
+    if end - from < NUMBER {
+        return at;
+    }
+    let words = from + NUMBER;
+    text(out, at, &rows[words..end])
+}
+
+pub(crate) fn refusal(
+    c: Controller,
+    lent: usize,
+    rows: &[u8],
+    number: &[u8],
+    out: &mut [u8],
+    at: usize,
+) -> usize {
+    let from = row_from(rows, number, 0);
+    let next = text(out, at, b"refused by ");
+    let next = text(out, next, number);
+    let next = text(out, next, b": ");
+    let next = meaning(out, next, rows, from);
+    let next = text(out, next, b"\n");
+    cause(out, next, c, lent, number)
+}

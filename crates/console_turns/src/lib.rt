@@ -1,0 +1,13 @@
+// The turns of the program `rack`: its script is read part by part, each line answered, and the answer told. Nothing is promised but
+// that this is safe and ends.
+mod answers;
+mod telling;
+mod turns;
+
+pub use answers::Answers;
+pub use telling::closed;
+pub use turns::Turn;
+pub use turns::Way;
+pub use turns::complain;
+pub use turns::first_turn;
+pub use turns::step;

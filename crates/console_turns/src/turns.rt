@@ -1,0 +1,452 @@
+// A turn of the program: more of the script is read, or one line of it is answered and told.
+use crate::answers::Answers;
+use crate::telling::flush;
+use crate::telling::tell;
+use console_files::Plan;
+use console_files::Task;
+use console_files::prepare;
+use console_files::put_file;
+use console_session::Session;
+use console_session::feed;
+use console_text::line::said;
+use console_text::page::byte;
+use console_text::page::text;
+use libc::STDERR_FILENO;
+use libc::STDOUT_FILENO;
+use std::num::wrapping_add_u64;
+
+pub type Part = [u8; 65536];
+
+pub type Line = [u8; 200002];
+
+pub type Memory = [u8; 65537];
+
+pub type Queue = [u8; 140000];
+
+pub type Room = [u8; 70000];
+
+pub type Spare = [u8; 100000];
+
+pub type Notes = [u8; 4096];
+
+// Room for an answer of 70,000 bytes, its line before it, and others that wait.
+pub type Out = [u8; 524288];
+
+// So many bytes of answers may wait when the next line is taken.
+const WAITING: usize = 160000;
+
+// A terminal gives no longer line: what is beyond it is lost.
+const TERMINAL: usize = 4095;
+
+// Where the script is read, and how its answers are told.
+pub struct Way {
+    pub fd: i32,
+    pub is_asking: bool,
+    pub is_explaining: bool,
+    pub is_echoing: bool,
+    pub is_comparing: bool,
+}
+
+// The session; the answers expected; the number of the last line; what of the part read is still to be taken; whether the
+// script's end was met, whether there is more to be done, and whether something failed.
+pub struct Turn {
+    pub session: Session,
+    pub answers: Answers,
+    pub number: u64,
+    pub from: usize,
+    pub filled: usize,
+    pub is_ending: bool,
+    pub is_more: bool,
+    pub is_failed: bool,
+}
+
+// The session after a line; how long the line is; where its answers begin, without and with an echo; whether it was one to
+// leave at, whether it names a file, and whether its fault was told already.
+pub(crate) struct Done {
+    pub session: Session,
+    pub length: usize,
+    pub before: usize,
+    pub start: usize,
+    pub is_left: bool,
+    pub is_file: bool,
+    pub is_told: bool,
+}
+
+// How far a line under way has come.
+struct Reached {
+    length: usize,
+    taken: usize,
+    ended: bool,
+}
+
+// Says in words why a call on this thing failed.
+pub fn complain(what: &[u8]) {
+    io::write_all(STDERR_FILENO, b"rack: ");
+    os::fail(what);
+}
+
+// Nothing read yet; the file of the answers expected, -1 for none.
+pub fn first_turn(answers: i32) -> Turn {
+    let session = Session::start();
+    let wanted = Answers {
+        fd: answers,
+        from: 0,
+        filled: 0,
+        number: 1,
+    };
+    Turn {
+        session,
+        answers: wanted,
+        number: 0,
+        from: 0,
+        filled: 0,
+        is_ending: false,
+        is_more: true,
+        is_failed: false,
+    }
+}
+
+fn failed(now: Turn) -> Turn {
+    let mut next = now;
+    next.is_more = false;
+    next.is_failed = true;
+    next
+}
+
+// A person is asked for the next line, unless one is under way.
+fn ask(is_asking: bool, length: usize) {
+    if is_asking & (length == 0) {
+        io::write_all(STDOUT_FILENO, b"> ");
+    }
+}
+
+fn holding(now: Turn, filled: usize) -> Turn {
+    let mut next = now;
+    next.from = 0;
+    next.filled = filled;
+    next
+}
+
+// Reads once. Behind the script's end stands a newline, for the last line may lack its own.
+fn read_more(way: Way, name: &[u8], now: Turn, part: &mut Part) -> Turn {
+    let got = libc::read(way.fd, part);
+    if got < 0 {
+        complain(name);
+        return failed(now);
+    }
+    if got == 0 {
+        part[0] = b'\n';
+        let mut last = holding(now, 1);
+        last.is_ending = true;
+        return last;
+    }
+    let n = io::count(got, part);
+    holding(now, n)
+}
+
+// All that was read is taken: the answers are written, so that a person sees them, and more is read.
+fn refill(way: Way, name: &[u8], now: Turn, part: &mut Part, out: &Out) -> Turn {
+    let mut flushed = flush(way, now, out);
+    if flushed.is_ending {
+        flushed.is_more = false;
+    }
+    if !flushed.is_more {
+        return flushed;
+    }
+    let session = flushed.session;
+    ask(way.is_asking, session.length);
+    read_more(way, name, flushed, part)
+}
+
+// Characters go to the line's array up to a newline or the part's end; those that find no room are left out.
+fn gather(line: &mut [u8], length: usize, part: &[u8], from: usize) -> Reached {
+    let mut next = length;
+    let mut i = from;
+    while i < part.len() {
+        let b = part[i];
+        i += 1;
+        if b == b'\n' {
+            return Reached {
+                length: next,
+                taken: i,
+                ended: true,
+            };
+        }
+        next = byte(line, next, b);
+    }
+    Reached {
+        length: next,
+        taken: i,
+        ended: false,
+    }
+}
+
+fn gathered(line: &mut Line, length: usize, part: &Part, from: usize, filled: usize) -> Reached {
+    let whole: &[u8] = part;
+    if whole.len() < filled {
+        return gather(line, length, whole, from);
+    }
+    gather(line, length, &whole[0..filled], from)
+}
+
+fn leaves(task: Task) -> bool {
+    match task {
+        Task::Leave => true,
+        Task::Console => false,
+        Task::Failed => false,
+        Task::Write => false,
+    }
+}
+
+fn fails(task: Task) -> bool {
+    match task {
+        Task::Failed => true,
+        Task::Console => false,
+        Task::Leave => false,
+        Task::Write => false,
+    }
+}
+
+fn writes(task: Task) -> bool {
+    match task {
+        Task::Write => true,
+        Task::Console => false,
+        Task::Leave => false,
+        Task::Failed => false,
+    }
+}
+
+// A line that a terminal may have cut is not done.
+fn plan_of(
+    is_cut: bool,
+    number: u64,
+    line: &mut [u8],
+    length: usize,
+    spare: &mut [u8],
+    notes: &mut [u8],
+) -> Plan {
+    if is_cut {
+        io::write_all(
+            STDERR_FILENO,
+            b"rack: a terminal cuts a line at 4095 characters: give longer ones in a file\n",
+        );
+        let task = Task::Failed;
+        return Plan {
+            task,
+            is_file: false,
+            length,
+            name: 0,
+        };
+    }
+    prepare(number, line, length, spare, notes)
+}
+
+// The command, as far as it is one, and the sign of a comment: what is echoed is a script again.
+fn echo(is_echoing: bool, line: &[u8], length: usize, out: &mut [u8], at: usize) -> usize {
+    if !is_echoing {
+        return at;
+    }
+    if line.len() < length {
+        return at;
+    }
+    let n = said(&line[0..length]);
+    let next = text(out, at, &line[0..n]);
+    text(out, next, b"    # ")
+}
+
+// What the console answered, or whether its bytes went to a file.
+fn put_where(
+    is_file: bool,
+    number: u64,
+    notes: &[u8],
+    name: usize,
+    spare: &mut [u8],
+    out: &mut [u8],
+    start: usize,
+    end: usize,
+) -> usize {
+    if !is_file {
+        return end;
+    }
+    if notes.len() < name {
+        return end;
+    }
+    put_file(number, &notes[0..name], spare, out, start, end)
+}
+
+// The answer of a line whose file failed; one to leave at has none.
+fn error_if(is_failed: bool, out: &mut [u8], at: usize) -> usize {
+    if is_failed {
+        return text(out, at, b"error\n");
+    }
+    at
+}
+
+// A line that the console doesn't get: one to leave at, or one whose file failed.
+fn not_asked(
+    ready: Session,
+    is_failed: bool,
+    length: usize,
+    before: usize,
+    out: &mut [u8],
+) -> Done {
+    let start = ready.waiting;
+    let mut left = ready;
+    left.length = 0;
+    left.waiting = error_if(is_failed, out, start);
+    Done {
+        session: left,
+        length,
+        before,
+        start,
+        is_left: !is_failed,
+        is_file: false,
+        is_told: true,
+    }
+}
+
+// The line in its array is answered.
+fn answer(
+    way: Way,
+    number: u64,
+    session: Session,
+    line: &mut Line,
+    memory: &mut Memory,
+    queue: &mut Queue,
+    room: &mut Room,
+    spare: &mut Spare,
+    out: &mut Out,
+    notes: &mut Notes,
+) -> Done {
+    let length = session.length;
+    let before = session.waiting;
+    let start = echo(way.is_echoing, line, length, out, before);
+    let is_cut = way.is_asking & (TERMINAL <= length);
+    let planned = plan_of(is_cut, number, line, length, spare, notes);
+    let task = planned.task;
+    let mut ready = session;
+    ready.length = planned.length;
+    ready.waiting = start;
+    if leaves(task) | fails(task) {
+        return not_asked(ready, fails(task), length, before, out);
+    }
+    let fed = feed(ready, b"\n", 0, line, memory, queue, room, spare, out);
+    let mut done = fed.session;
+    let end = done.waiting;
+    done.waiting = put_where(
+        writes(task),
+        number,
+        notes,
+        planned.name,
+        spare,
+        out,
+        start,
+        end,
+    );
+    Done {
+        session: done,
+        length: planned.length,
+        before,
+        start,
+        is_left: false,
+        is_file: planned.is_file,
+        is_told: done.waiting != end,
+    }
+}
+
+// Takes what is left of the part read, up to the end of one line.
+fn take(
+    way: Way,
+    name: &[u8],
+    expected: &[u8],
+    now: Turn,
+    part: &Part,
+    line: &mut Line,
+    memory: &mut Memory,
+    queue: &mut Queue,
+    room: &mut Room,
+    spare: &mut Spare,
+    out: &mut Out,
+    notes: &mut Notes,
+    wanted: &mut Part,
+) -> Turn {
+    let session = now.session;
+    let reached = gathered(line, session.length, part, now.from, now.filled);
+    let mut begun = session;
+    begun.length = reached.length;
+    let mut next = now;
+    next.from = reached.taken;
+    next.session = begun;
+    if !reached.ended {
+        return next;
+    }
+    next.number = wrapping_add_u64(now.number, 1);
+    let done = answer(
+        way,
+        next.number,
+        begun,
+        line,
+        memory,
+        queue,
+        room,
+        spare,
+        out,
+        notes,
+    );
+    tell(
+        way,
+        name,
+        expected,
+        next,
+        done,
+        line,
+        spare,
+        out,
+        notes,
+        wanted,
+    )
+}
+
+// One turn: more is read, or a line is taken.
+pub fn step(
+    way: Way,
+    name: &[u8],
+    expected: &[u8],
+    now: Turn,
+    part: &mut Part,
+    line: &mut Line,
+    memory: &mut Memory,
+    queue: &mut Queue,
+    room: &mut Room,
+    spare: &mut Spare,
+    out: &mut Out,
+    notes: &mut Notes,
+    wanted: &mut Part,
+) -> Turn {
+    if now.filled <= now.from {
+        return refill(way, name, now, part, out);
+    }
+    let session = now.session;
+    if WAITING < session.waiting {
+        return flush(way, now, out);
+    }
+    let taken = take(
+        way,
+        name,
+        expected,
+        now,
+        part,
+        line,
+        memory,
+        queue,
+        room,
+        spare,
+        out,
+        notes,
+        wanted,
+    );
+    if taken.is_more {
+        return taken;
+    }
+    flush(way, taken, out)
+}
