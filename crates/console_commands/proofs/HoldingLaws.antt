@@ -1,11 +1,13 @@
 -- Laws of what the console holds.
-use Prim.Native.Nat.{ℕ, _≤_}
+use Prim.Native.Nat.{ℕ, _-_, _≤_}
 use mathlib.Core.Path.{_≡_, refl, sym, ap, subst, _∙_}
-use mathlib.Core.Bool.{true}
+use mathlib.Core.Bool.{Bool, true, false}
 use mathlib.Core.List.{List}
 use native.Mathlib.Omega.{arith}
+use lib.Dec.{ltb}
 use lib.ListN.{length, take}
-use borrow.Author.Tests.{leb-true, le-leb}
+use borrow.Author.Tests.{leb-true, le-leb, le-ltb, ltb-false}
+use Rattle.words.specs.Choice.{when}
 use Rattle.words.proofs.ChoiceLaws.{both, both-hold}
 use Rattle.am9517.specs.declared.Controller.{Controller}
 use Rattle.console_text.specs.Text.{Page, page, put}
@@ -14,10 +16,11 @@ use Rattle.console_text.specs.declared.numbers.Number.{Number}
 use Rattle.console_text.specs.declared.numbers.Number.the-variants.{Value, Bad}
 use Rattle.console_text.proofs.NumberLaws.{number-fits}
 use Rattle.console_chip.specs.Answers.{Reply, numbered}
-use Rattle.console_arrays.specs.Arrays.{lentOf, Changed, Shown, shown, showing, Queued, Roomed}
-use Rattle.console_commands.specs.Holding.{said, stands, holds, left, leaving}
-use Rattle.console_commands.specs.Doings.{controlled, lending, remembering, queueing, rooming}
-use Rattle.console_commands.specs.Needs.{Standing, queuePart, roomPart, withQueue, withRoom, withLent, withController}
+use Rattle.console_arrays.specs.Arrays.{lentOf, held, Changed, Shown, shown, showing, Queued, Roomed}
+use Rattle.console_commands.specs.Holding.{having, freshConsole, said, stands, holds, left, leaving}
+use Rattle.console_commands.specs.Doings.{controlled, lending, remembering, queueing, rooming, further}
+use Rattle.console_commands.specs.Needs.{Standing, queuePart, roomPart, withQueue, withRoom, withLent, withController, afterService}
+use Rattle.console_arrays.specs.declared.runs.Served.{Served}
 use Rattle.console_commands.specs.declared.Console.{Console}
 use Rattle.console_commands.specs.declared.holding.Executed.{Executed}
 
@@ -63,6 +66,15 @@ lent-most lent m size h w = go (numberOf 65537 size) refl
     go (Value n) e = omega (arith, number-fits 65537 n size e)
     go Bad e = h
 
+-- a place further on stays before the last
+pub further-most : (from n last : ℕ) → from ≤ last → further from n last ≤ last
+unfolding further when
+further-most from n last h = go (ltb (last - from) n) refl
+  where
+    go : (b : Bool) → ltb (last - from) n ≡ b → further from n last ≤ last
+    go true e = rw (le-ltb last from h, e) (omega arith)
+    go false e = let l = ltb-false (last - from) n e in rw (le-ltb last from h, e) (omega arith)
+
 -- A command leaves what is held as it was, or with another part of it. First the controller and what goes with it.
 module _ (c : Console) (p : Page) where
   module _ (m q room : List ℕ) (r : Executed) (out : List ℕ) where
@@ -94,38 +106,58 @@ module _ (c : Console) (p : Page) where
       → left r m new room out ≡ leaving p (queueing (holds c m q room) y)
   queued-so m q room new out r y e s =
       ap (λ (x : Console). record { holding = holds x m new room; page = page out (r .at) }) e
-      ∙ ap (λ (s : Shown). record { holding = record { controller = c .controller; memory = m; lent = c .lent; queue = s .array; room = take (c .size) room; written = c .written }; page = s .page }) (s .holds)
+      ∙ ap (λ (s : Shown). record { holding = having (c .controller) m (c .lent) (s .array) (take (c .size) room) (c .written); page = s .page }) (s .holds)
 
   -- the room and its write position
-  pub roomed-so : (m q room new out : List ℕ) (r : Executed) (y : Changed) (n : ℕ) → r .console ≡ withRoom c r → Roomed (roomPart r) new out (showing p y) n
-      → left r m q new out ≡ leaving p (rooming (holds c m q room) y n)
+  pub roomed-so : (m q room new out : List ℕ) (r : Executed) (y : Changed) (n : ℕ) → r .console ≡ withRoom c r
+      → Roomed (roomPart r) new out (showing p y) n → left r m q new out ≡ leaving p (rooming (holds c m q room) y n)
   roomed-so m q room new out r y n e s =
+      let queue = held q (c .start) (c .end) in
       ap (λ (x : Console). record { holding = holds x m q new; page = page out (r .at) }) e
-      ∙ ap (λ (k : ℕ). record { holding = record { controller = c .controller; memory = m; lent = c .lent; queue = holds c m q new .queue; room = take (r .console .size) new; written = k }; page = page out (r .at) }) (s .behind)
-      ∙ ap (λ (s : Shown). record { holding = record { controller = c .controller; memory = m; lent = c .lent; queue = holds c m q new .queue; room = s .array; written = n }; page = s .page }) (s .holds)
+      ∙ ap (λ (k : ℕ). record { holding = having (c .controller) m (c .lent) queue (take (r .console .size) new) k; page = page out (r .at) }) (s .behind)
+      ∙ ap (λ (s : Shown). record { holding = having (c .controller) m (c .lent) queue (s .array) n; page = s .page }) (s .holds)
 
 -- And it still lies in the arrays.
 module _ (c : Console) (memory queue room : ℕ) (s : Standing c memory queue room) where
-  pub stays-standing : (next : Console) → next ≡ c → Standing next memory queue room
-  stays-standing next e = subst (λ (x : Console). Standing x memory queue room) (sym e) s
+  module _ (next : Console) where
+    pub stays-standing : next ≡ c → Standing next memory queue room
+    stays-standing e = subst (λ (x : Console). Standing x memory queue room) (sym e) s
 
-  pub controlled-standing : (next : Console) (d : Controller) → next ≡ withController c d → Standing next memory queue room
-  controlled-standing next d e =
-      subst (λ (x : Console). Standing x memory queue room) (sym e)
-      (record { lent = s .lent; whole = s .whole; ordered = s .ordered; queued = s .queued; deep = s .deep; placed = s .placed; roomed = s .roomed; wide = s .wide })
+    -- where its parts do
+    parts-standing : (d : Console) → d .lent ≤ memory → d .start ≤ d .end → d .end ≤ queue → d .written ≤ d .size → d .size ≤ room → next ≡ d
+        → Standing next memory queue room
+    parts-standing d l o q w r e =
+        subst (λ (x : Console). Standing x memory queue room) (sym e)
+        (record { lent = l; whole = s .whole; ordered = o; queued = q; deep = s .deep; placed = w; roomed = r; wide = s .wide })
 
-  pub lent-standing : (next : Console) (size : List ℕ) → next ≡ withLent c (lentOf (c .lent) size) → Standing next memory queue room
-  lent-standing next size e =
-      subst (λ (x : Console). Standing x memory queue room) (sym e)
-      (record { lent = lent-most (c .lent) memory size (s .lent) (s .whole); whole = s .whole; ordered = s .ordered; queued = s .queued; deep = s .deep; placed = s .placed; roomed = s .roomed; wide = s .wide })
+    pub controlled-standing : (d : Controller) → next ≡ withController c d → Standing next memory queue room
+    controlled-standing d e = parts-standing (withController c d) (s .lent) (s .ordered) (s .queued) (s .placed) (s .roomed) e
+
+    pub lent-standing : (size : List ℕ) → next ≡ withLent c (lentOf (c .lent) size) → Standing next memory queue room
+    lent-standing size e =
+        let most = lent-most (c .lent) memory size (s .lent) (s .whole) in
+        parts-standing (withLent c (lentOf (c .lent) size)) most (s .ordered) (s .queued) (s .placed) (s .roomed) e
+
+    pub served-standing : (r : Served) → next ≡ afterService c r → Standing next memory queue room
+    served-standing r e =
+        let used = further-most (c .start) (r .used) (c .end) (s .ordered) in
+        let written = further-most (c .written) (r .written) (c .size) (s .placed) in
+        parts-standing (afterService c r) (s .lent) used (s .queued) written (s .roomed) e
 
   module _ (r : Executed) (new out : List ℕ) (y : Shown) where
     pub queued-standing : length new ≡ queue → r .console ≡ withQueue c r → Queued (queuePart r) new out y → Standing (r .console) memory queue room
     queued-standing l e g =
-        subst (λ (x : Console). Standing x memory queue room) (sym e)
-        (record { lent = s .lent; whole = s .whole; ordered = g .ordered; queued = omega (arith, g .inside); deep = s .deep; placed = s .placed; roomed = s .roomed; wide = s .wide })
+        parts-standing (r .console) (withQueue c r) (s .lent) (g .ordered) (omega (arith, g .inside)) (s .placed) (s .roomed) e
 
-    pub roomed-standing : (n : ℕ) → length new ≡ room → r .console ≡ withRoom c r → Roomed (roomPart r) new out y n → Standing (r .console) memory queue room
+    pub roomed-standing : (n : ℕ) → length new ≡ room → r .console ≡ withRoom c r → Roomed (roomPart r) new out y n
+        → Standing (r .console) memory queue room
     roomed-standing n l e g =
-        subst (λ (x : Console). Standing x memory queue room) (sym e)
-        (record { lent = s .lent; whole = s .whole; ordered = s .ordered; queued = s .queued; deep = s .deep; placed = g .ordered; roomed = omega (arith, g .inside); wide = s .wide })
+        parts-standing (r .console) (withRoom c r) (s .lent) (s .ordered) (s .queued) (g .ordered) (omega (arith, g .inside)) e
+
+-- a fresh console stands where the arrays are large enough
+pub fresh-stands : (memory queue room spare : ℕ) → 65537 ≤ memory → 70000 ≤ queue → 70000 ≤ room → 100000 ≤ spare
+    → stands freshConsole memory queue room spare ≡ true
+fresh-stands memory queue room spare m q r s =
+    stands-so freshConsole memory queue room spare
+    (record { lent = omega arith; whole = m; ordered = omega arith; queued = omega arith; deep = q; placed = omega arith; roomed = omega arith; wide = r })
+    s

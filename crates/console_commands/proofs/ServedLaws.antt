@@ -1,6 +1,6 @@
 -- Laws of a service on what the console lends to it.
 use Prim.Native.Nat.{ℕ, _+_, _-_, _≤_}
-use mathlib.Core.Path.{_≡_, refl, sym, ap, subst, _∙_}
+use mathlib.Core.Path.{_≡_, refl, sym, ap, _∙_}
 use mathlib.Core.Bool.{Bool, true, false}
 use mathlib.Core.List.{List, _++_}
 use native.Mathlib.Omega.{arith}
@@ -13,23 +13,14 @@ use Rattle.words.specs.Choice.{when}
 use Rattle.console_text.specs.Text.{Page, page}
 use Rattle.console_text.specs.declared.forms.ServiceCommand.{ServiceCommand}
 use Rattle.console_arrays.specs.Arrays.{held}
-use Rattle.console_arrays.specs.Services.{Seen, served, serving}
+use Rattle.console_arrays.specs.Services.{Service, Seen, served, serving}
 use Rattle.console_arrays.specs.declared.runs.Served.{Served}
 use Rattle.console_arrays.proofs.ArrayLaws.{held-front, held-length}
-use Rattle.console_commands.specs.Holding.{holds, left, leaving}
+use Rattle.console_commands.specs.Holding.{Held, having, holds, Left, left, leaving}
 use Rattle.console_commands.specs.Doings.{further, serviceReply, servicesDo}
 use Rattle.console_commands.specs.Needs.{Standing, afterService}
 use Rattle.console_commands.specs.declared.Console.{Console}
 use Rattle.console_commands.specs.declared.holding.Executed.{Executed}
-
--- a place further on stays before the last
-pub further-most : (from n last : ℕ) → from ≤ last → further from n last ≤ last
-unfolding further when
-further-most from n last h = go (ltb (last - from) n) refl
-  where
-    go : (b : Bool) → ltb (last - from) n ≡ b → further from n last ≤ last
-    go true e = rw (le-ltb last from h, e) (omega arith)
-    go false e = let l = ltb-false (last - from) n e in rw (le-ltb last from h, e) (omega arith)
 
 -- bytes used leave the queue
 used-left : (q : List ℕ) (from to n : ℕ) → from ≤ to → to ≤ length q → held q (further from n to) to ≡ drop n (held q from to)
@@ -61,44 +52,54 @@ room-back w size room new h l e =
 
 module _ (c : Console) (m q room : List ℕ) (s : Standing c (length m) (length q) (length room)) where
   module _ (k : ServiceCommand) (one two : List ℕ) (p : Page) (r : Served) (m' room' out : List ℕ) where
-    -- what is seen of a service on these parts is what it does to all that is held
-    served-so : served r m' room' out ≡ serving p (serviceReply k (c .controller) (take (c .lent - 0) (drop 0 m)) (held q (c .start) (c .end)) (held room (c .written) (c .size)) one two)
-        → length room' ≡ c .size - c .written
-        → left (record { console = afterService c r; at = r .at }) (putMid 0 (c .lent - 0) m m') q (putMid (c .written) (c .size - c .written) room room') out ≡ leaving p (servicesDo k one two (holds c m q room))
-    served-so e l =
-        let h = holds c m q room in
-        let none : c .lent - 0 ≡ c .lent = omega arith in
-        let lent : take (c .lent - 0) (drop 0 m) ≡ take (c .lent) m = ap (λ (n : ℕ). take n m) none in
-        let rest : held room (c .written) (c .size) ≡ drop (c .written) (take (c .size) room) = sym (held-front room (c .written) (c .size) (s .placed) (s .roomed)) in
-        let told = e ∙ ap (λ (x : List ℕ). serving p (serviceReply k (c .controller) x (h .queue) (held room (c .written) (c .size)) one two)) lent ∙ ap (λ (x : List ℕ). serving p (serviceReply k (c .controller) (take (c .lent) m) (h .queue) x one two)) rest in
-        let memory : putMid 0 (c .lent - 0) m m' ≡ m' ++ drop (c .lent) m = ap (λ (n : ℕ). m' ++ drop n m) none in
-        let queue : held q (further (c .start) (r .used) (c .end)) (c .end) ≡ drop (r .used) (h .queue) = used-left q (c .start) (c .end) (r .used) (s .ordered) (s .queued) in
-        let back : take (c .size) (putMid (c .written) (c .size - c .written) room room') ≡ take (c .written) (h .room) ++ room' = room-back (c .written) (c .size) room room' (s .placed) (s .roomed) l in
-        let size : c .size ≡ length (h .room) = sym (length-take-le (c .size) room (s .roomed)) in
-        rw (memory, queue, back, ap (further (c .written) (r .written)) size)
-        (ap (λ (x : Seen). record { holding = record { controller = x .controller; memory = x .memory ++ drop (c .lent) m; lent = c .lent; queue = drop (x .used) (h .queue); room = take (c .written) (h .room) ++ x .room; written = further (c .written) (x .written) (length (h .room)) }; page = x .page }) told)
+    abbrev h : Held
+    h = holds c m q room
 
-    pub service-so : (x : Executed) → x .console ≡ afterService c r → x .at ≡ r .at
-        → served r m' room' out ≡ serving p (serviceReply k (c .controller) (take (c .lent - 0) (drop 0 m)) (held q (c .start) (c .end)) (held room (c .written) (c .size)) one two)
-        → length room' ≡ c .size - c .written
-        → left x (putMid 0 (c .lent - 0) m m') q (putMid (c .written) (c .size - c .written) room room') out ≡ leaving p (servicesDo k one two (holds c m q room))
-    service-so x a b e l =
-        let memory = putMid 0 (c .lent - 0) m m' in
-        let rest = putMid (c .written) (c .size - c .written) room room' in
-        ap (λ (y : Console). record { holding = holds y memory q rest; page = page out (x .at) }) a
-        ∙ ap (λ (n : ℕ). record { holding = holds (afterService c r) memory q rest; page = page out n }) b
-        ∙ served-so e l
+    -- what it is asked, by its parts of the arrays
+    abbrev asked : List ℕ → List ℕ → Service
+    asked memory room = serviceReply k (c .controller) memory (h .queue) room one two
 
-  pub served-standing : (r : Served) (next : Console) → next ≡ afterService c r → Standing next (length m) (length q) (length room)
-  served-standing r next e =
-      subst (λ (x : Console). Standing x (length m) (length q) (length room)) (sym e)
-      (record {
-        lent = s .lent;
-        whole = s .whole;
-        ordered = further-most (c .start) (r .used) (c .end) (s .ordered);
-        queued = s .queued;
-        deep = s .deep;
-        placed = further-most (c .written) (r .written) (c .size) (s .placed);
-        roomed = s .roomed;
-        wide = s .wide;
-      })
+    -- the arrays when these are back
+    abbrev memory : List ℕ
+    memory = putMid 0 (c .lent - 0) m m'
+
+    abbrev rest : List ℕ
+    rest = putMid (c .written) (c .size - c .written) room room'
+
+    module _ (e : served r m' room' out ≡ serving p (asked (take (c .lent - 0) (drop 0 m)) (held room (c .written) (c .size)))) (l : length room' ≡ c .size - c .written) where
+      -- what is seen of it is what it does to all that is held
+      told : served r m' room' out ≡ serving p (asked (take (c .lent) m) (drop (c .written) (h .room)))
+      told =
+          let none : c .lent - 0 ≡ c .lent = omega arith in
+          e
+          ∙ ap (λ (n : ℕ). serving p (asked (take n m) (held room (c .written) (c .size)))) none
+          ∙ ap (λ (x : List ℕ). serving p (asked (take (c .lent) m) x)) (sym (held-front room (c .written) (c .size) (s .placed) (s .roomed)))
+
+      abbrev seen : Seen → Left
+      seen x =
+          record {
+            holding =
+                having
+                (x .controller)
+                (x .memory ++ drop (c .lent) m)
+                (c .lent)
+                (drop (x .used) (h .queue))
+                (take (c .written) (h .room) ++ x .room)
+                (further (c .written) (x .written) (length (h .room)));
+            page = x .page;
+          }
+
+      served-so : left (record { console = afterService c r; at = r .at }) memory q rest out ≡ leaving p (servicesDo k one two h)
+      served-so =
+          let none : c .lent - 0 ≡ c .lent = omega arith in
+          let whole : memory ≡ m' ++ drop (c .lent) m = ap (λ (n : ℕ). m' ++ drop n m) none in
+          let queue = used-left q (c .start) (c .end) (r .used) (s .ordered) (s .queued) in
+          let back = room-back (c .written) (c .size) room room' (s .placed) (s .roomed) l in
+          let size : c .size ≡ length (h .room) = sym (length-take-le (c .size) room (s .roomed)) in
+          rw (whole, queue, back, ap (further (c .written) (r .written)) size) (ap seen told)
+
+      pub service-so : (x : Executed) → x .console ≡ afterService c r → x .at ≡ r .at → left x memory q rest out ≡ leaving p (servicesDo k one two h)
+      service-so x a b =
+          ap (λ (y : Console). record { holding = holds y memory q rest; page = page out (x .at) }) a
+          ∙ ap (λ (n : ℕ). record { holding = holds (afterService c r) memory q rest; page = page out n }) b
+          ∙ served-so

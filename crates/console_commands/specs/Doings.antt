@@ -25,7 +25,7 @@ use Rattle.console_chip.specs.Control.{stateText, stateReply, writeReply, readR
 use Rattle.console_arrays.specs.Arrays.{lentOf, lentText, peekText, Changed, changed, pokeOf, feedOf, fillOf, roomOf, positionOf}
 use Rattle.console_arrays.specs.Services.{Service, runReply, roundReply}
 use Rattle.console_dump.specs.Dump.{dumpOf}
-use Rattle.console_commands.specs.Holding.{Held, Said, said}
+use Rattle.console_commands.specs.Holding.{Held, having, Said, said}
 
 -- On the controller: the next one, and the answer.
 unfoldable pub chipReply : ChipCommand → Controller → List ℕ → List ℕ → Reply
@@ -41,35 +41,20 @@ chipReply Sheet c one two = sheetReply c one
 chipReply Load c one two = loadReply c one
 
 abbrev pub controlled : Held → Reply → Said
-controlled h r =
-    said
-    (record { controller = r .controller; memory = h .memory; lent = h .lent; queue = h .queue; room = h .room; written = h .written })
-    (r .text)
+controlled h r = said (having (r .controller) (h .memory) (h .lent) (h .queue) (h .room) (h .written)) (r .text)
 
 -- On the memory, the queue and the room: what is held with another one, and the answer.
 abbrev pub lending : Held → ℕ → List ℕ → Said
-lending h n text =
-    said
-    (record { controller = h .controller; memory = h .memory; lent = n; queue = h .queue; room = h .room; written = h .written })
-    text
+lending h n text = said (having (h .controller) (h .memory) n (h .queue) (h .room) (h .written)) text
 
 abbrev pub remembering : Held → Changed → Said
-remembering h c =
-    said
-    (record { controller = h .controller; memory = c .array; lent = h .lent; queue = h .queue; room = h .room; written = h .written })
-    (c .text)
+remembering h c = said (having (h .controller) (c .array) (h .lent) (h .queue) (h .room) (h .written)) (c .text)
 
 abbrev pub queueing : Held → Changed → Said
-queueing h c =
-    said
-    (record { controller = h .controller; memory = h .memory; lent = h .lent; queue = c .array; room = h .room; written = h .written })
-    (c .text)
+queueing h c = said (having (h .controller) (h .memory) (h .lent) (c .array) (h .room) (h .written)) (c .text)
 
 abbrev pub rooming : Held → Changed → ℕ → Said
-rooming h c position =
-    said
-    (record { controller = h .controller; memory = h .memory; lent = h .lent; queue = h .queue; room = c .array; written = position })
-    (c .text)
+rooming h c position = said (having (h .controller) (h .memory) (h .lent) (h .queue) (c .array) position) (c .text)
 
 unfoldable pub arraysDo : ArrayCommand → List ℕ → List ℕ → Held → Said
 arraysDo Memory one two h = lending h (lentOf (h .lent) one) (lentText one)
@@ -96,14 +81,13 @@ further from n last = when (ltb last from) from (when (ltb (last - from) n) last
 abbrev pub serviced : Held → Service → Said
 serviced h s =
     said
-    (record {
-      controller = s .controller;
-      memory = s .memory ++ drop (h .lent) (h .memory);
-      lent = h .lent;
-      queue = drop (s .used) (h .queue);
-      room = take (h .written) (h .room) ++ s .room;
-      written = further (h .written) (s .written) (length (h .room));
-    })
+    (having
+    (s .controller)
+    (s .memory ++ drop (h .lent) (h .memory))
+    (h .lent)
+    (drop (s .used) (h .queue))
+    (take (h .written) (h .room) ++ s .room)
+    (further (h .written) (s .written) (length (h .room))))
     (s .text)
 
 -- "the first `memory` bytes are lent to runs and rounds"; the queue is lent, and the room from its write position on

@@ -24,6 +24,10 @@ pub record Held : Type 0 where
   pub room : List ℕ
   pub written : ℕ
 
+abbrev pub having : Controller → List ℕ → ℕ → List ℕ → List ℕ → ℕ → Held
+having c memory lent queue room written =
+    record { controller = c; memory = memory; lent = lent; queue = queue; room = room; written = written }
+
 -- at the start: a fresh controller, 65,536 bytes lent, the queue empty, a room of 0 bytes
 abbrev pub freshConsole : Console
 freshConsole = record { controller = fresh; lent = 65536; start = 0; end = 0; size = 0; written = 0 }
@@ -45,15 +49,7 @@ stands c memory queue room spare =
     and leb 100000 spare
 
 abbrev pub holds : Console → List ℕ → List ℕ → List ℕ → Held
-holds c memory queue room =
-    record {
-      controller = c .controller;
-      memory = memory;
-      lent = c .lent;
-      queue = held queue (c .start) (c .end);
-      room = take (c .size) room;
-      written = c .written;
-    }
+holds c memory queue room = having (c .controller) memory (c .lent) (held queue (c .start) (c .end)) (take (c .size) room) (c .written)
 
 -- What is seen of a line: what the console holds after it, and the page that its answer stands on.
 pub record Left : Type 0 where
