@@ -30,6 +30,9 @@ fn ready(answers: Answers, part: &mut [u8; 65536]) -> Answers {
         return answers;
     }
     let got = libc::read(answers.fd, part);
+    if got < 0 {
+        os::fail(b"rack: the answers expected");
+    }
     let mut next = answers;
     next.from = 0;
     next.filled = io::count(got, part);

@@ -13,9 +13,9 @@ use crate::turns::Spare;
 use crate::turns::Turn;
 use crate::turns::Way;
 use crate::turns::complain;
+use console_commands::Console;
 use console_explain::Held;
 use console_explain::explain;
-use console_session::Session;
 use console_show::help_refusals;
 use console_show::help_rows;
 use console_text::line::said;
@@ -24,6 +24,9 @@ use console_text::page::decimal;
 use console_text::page::text;
 use libc::STDERR_FILENO;
 use libc::STDOUT_FILENO;
+
+// A longer line is an error.
+const LONGEST: usize = 200000;
 
 // Answers that are compared and not echoed are not written.
 fn write_out(way: Way, out: &[u8], waiting: usize) -> bool {
@@ -38,12 +41,9 @@ fn write_out(way: Way, out: &[u8], waiting: usize) -> bool {
 
 // Writes the answers that wait, none of which waits after it; where that fails, nothing is left to be done.
 pub(crate) fn flush(way: Way, now: Turn, out: &Out) -> Turn {
-    let mut session = now.session;
-    let waiting = session.waiting;
-    session.waiting = 0;
     let mut next = now;
-    next.session = session;
-    if write_out(way, out, waiting) {
+    next.waiting = 0;
+    if write_out(way, out, now.waiting) {
         return next;
     }
     complain(b"standard output");
@@ -74,8 +74,7 @@ fn named(is_asking: bool, name: &[u8], notes: &mut [u8]) -> usize {
     text(notes, next, b":")
 }
 
-fn holding(session: Session) -> Held {
-    let console = session.console;
+fn holding(console: Console) -> Held {
     let controller = console.controller;
     let queued = if console.end < console.start {
         0
@@ -98,7 +97,7 @@ fn put_rows(spare: &mut [u8]) -> usize {
 
 // Why this answer was given, in words behind those on the notes.
 fn cause(
-    session: Session,
+    console: Console,
     line: &[u8],
     length: usize,
     answer: &[u8],
@@ -106,15 +105,18 @@ fn cause(
     notes: &mut [u8],
     at: usize,
 ) -> usize {
-    let rows = put_rows(spare);
+    if LONGEST < length {
+        return text(notes, at, b"a line has 200000 characters at most\n");
+    }
     if line.len() < length {
         return at;
     }
+    let rows = put_rows(spare);
     if spare.len() < rows {
         return at;
     }
     let n = said(&line[0..length]);
-    let held = holding(session);
+    let held = holding(console);
     explain(held, &spare[0..rows], &line[0..n], answer, notes, at)
 }
 
@@ -131,9 +133,9 @@ fn explained(
     notes: &mut Notes,
 ) -> Turn {
     let next = flush(way, now, out);
-    let session = done.session;
+    let console = now.console;
     let from = place(way.is_asking, name, now.number, notes);
-    let to = cause(session, line, done.length, answer, spare, notes, from);
+    let to = cause(console, line, done.length, answer, spare, notes, from);
     if from < to {
         write_notes(notes, to);
     }
@@ -217,18 +219,18 @@ pub(crate) fn tell(
     notes: &mut Notes,
     wanted: &mut Part,
 ) -> Turn {
-    let mut session = done.session;
+    let console = done.console;
     let start = done.start;
-    let end = session.waiting;
+    let end = done.end;
     let mut next = now;
+    next.console = console;
     next.is_more = !done.is_left;
     if end <= start {
         // no answer, and no echo
-        session.waiting = done.before;
-        next.session = session;
+        next.waiting = done.before;
         return next;
     }
-    next.session = session;
+    next.waiting = end;
     let page: &[u8] = out;
     if page.len() < end {
         return next;

@@ -2,6 +2,8 @@
 use crate::answers::Answers;
 use crate::telling::flush;
 use crate::telling::tell;
+use console_commands::Console;
+use console_commands::Executed;
 use console_files::Plan;
 use console_files::Task;
 use console_files::prepare;
@@ -14,6 +16,8 @@ use console_text::page::text;
 use libc::STDERR_FILENO;
 use libc::STDOUT_FILENO;
 use std::num::wrapping_add_u64;
+ghost use Prim.Native.Nat.{_≤_};
+ghost use lib.ListN.{length};
 
 pub type Part = [u8; 65536];
 
@@ -47,10 +51,13 @@ pub struct Way {
     pub is_comparing: bool,
 }
 
-// The session; the answers expected; the number of the last line; what of the part read is still to be taken; whether the
-// script's end was met, whether there is more to be done, and whether something failed.
+// What the console holds; the length of the line under way; how many bytes of answers wait; the answers expected; the number
+// of the last line; what of the part read is still to be taken; whether the script's end was met, whether there is more to be
+// done, and whether something failed.
 pub struct Turn {
-    pub session: Session,
+    pub console: Console,
+    pub length: usize,
+    pub waiting: usize,
     pub answers: Answers,
     pub number: u64,
     pub from: usize,
@@ -60,10 +67,11 @@ pub struct Turn {
     pub is_failed: bool,
 }
 
-// The session after a line; how long the line is; where its answers begin, without and with an echo; whether it was one to
+// What the console holds after a line, and the place behind its answer; how long the line is; where its answers begin, without and with an echo; whether it was one to
 // leave at, whether it names a file, and whether its fault was told already.
 pub(crate) struct Done {
-    pub session: Session,
+    pub console: Console,
+    pub end: usize,
     pub length: usize,
     pub before: usize,
     pub start: usize,
@@ -87,7 +95,7 @@ pub fn complain(what: &[u8]) {
 
 // Nothing read yet; the file of the answers expected, -1 for none.
 pub fn first_turn(answers: i32) -> Turn {
-    let session = Session::start();
+    let console = Console::fresh();
     let wanted = Answers {
         fd: answers,
         from: 0,
@@ -95,7 +103,9 @@ pub fn first_turn(answers: i32) -> Turn {
         number: 1,
     };
     Turn {
-        session,
+        console,
+        length: 0,
+        waiting: 0,
         answers: wanted,
         number: 0,
         from: 0,
@@ -153,8 +163,7 @@ fn refill(way: Way, name: &[u8], now: Turn, part: &mut Part, out: &Out) -> Turn 
     if !flushed.is_more {
         return flushed;
     }
-    let session = flushed.session;
-    ask(way.is_asking, session.length);
+    ask(way.is_asking, flushed.length);
     read_more(way, name, flushed, part)
 }
 
@@ -241,6 +250,21 @@ fn plan_of(
     prepare(number, line, length, spare, notes)
 }
 
+// The length of a line without blanks at its end.
+fn trimmed(line: &[u8], n: usize) -> usize
+    requires { ⌜ n ≤ length (now line) ⌝ }
+    ensures { λ r. ⌜ r ≤ n ⌝ }
+{
+    let mut i = n;
+    while i > 0 {
+        if line[i - 1] != b' ' {
+            return i;
+        }
+        i -= 1;
+    }
+    0
+}
+
 // The command, as far as it is one, and the sign of a comment: what is echoed is a script again.
 fn echo(is_echoing: bool, line: &[u8], length: usize, out: &mut [u8], at: usize) -> usize {
     if !is_echoing {
@@ -250,7 +274,8 @@ fn echo(is_echoing: bool, line: &[u8], length: usize, out: &mut [u8], at: usize)
         return at;
     }
     let n = said(&line[0..length]);
-    let next = text(out, at, &line[0..n]);
+    let end = trimmed(line, n);
+    let next = text(out, at, &line[0..end]);
     text(out, next, b"    # ")
 }
 
@@ -282,26 +307,29 @@ fn error_if(is_failed: bool, out: &mut [u8], at: usize) -> usize {
     at
 }
 
-// A line that the console doesn't get: one to leave at, or one whose file failed.
-fn not_asked(
-    ready: Session,
-    is_failed: bool,
+// The console's answer to the line in its array.
+fn ask_console(
+    console: Console,
     length: usize,
-    before: usize,
-    out: &mut [u8],
-) -> Done {
-    let start = ready.waiting;
-    let mut left = ready;
-    left.length = 0;
-    left.waiting = error_if(is_failed, out, start);
-    Done {
-        session: left,
+    line: &mut Line,
+    memory: &mut Memory,
+    queue: &mut Queue,
+    room: &mut Room,
+    spare: &mut Spare,
+    out: &mut Out,
+    at: usize,
+) -> Executed {
+    let session = Session {
+        console,
         length,
-        before,
-        start,
-        is_left: !is_failed,
-        is_file: false,
-        is_told: true,
+        waiting: at,
+    };
+    let fed = feed(session, b"\n", 0, line, memory, queue, room, spare, out);
+    let done = fed.session;
+    let next = done.console;
+    Executed {
+        console: next,
+        at: done.waiting,
     }
 }
 
@@ -309,7 +337,9 @@ fn not_asked(
 fn answer(
     way: Way,
     number: u64,
-    session: Session,
+    console: Console,
+    length: usize,
+    before: usize,
     line: &mut Line,
     memory: &mut Memory,
     queue: &mut Queue,
@@ -318,22 +348,35 @@ fn answer(
     out: &mut Out,
     notes: &mut Notes,
 ) -> Done {
-    let length = session.length;
-    let before = session.waiting;
     let start = echo(way.is_echoing, line, length, out, before);
     let is_cut = way.is_asking & (TERMINAL <= length);
     let planned = plan_of(is_cut, number, line, length, spare, notes);
     let task = planned.task;
-    let mut ready = session;
-    ready.length = planned.length;
-    ready.waiting = start;
     if leaves(task) | fails(task) {
-        return not_asked(ready, fails(task), length, before, out);
+        return Done {
+            console,
+            end: error_if(fails(task), out, start),
+            length,
+            before,
+            start,
+            is_left: leaves(task),
+            is_file: false,
+            is_told: true,
+        };
     }
-    let fed = feed(ready, b"\n", 0, line, memory, queue, room, spare, out);
-    let mut done = fed.session;
-    let end = done.waiting;
-    done.waiting = put_where(
+    let done = ask_console(
+        console,
+        planned.length,
+        line,
+        memory,
+        queue,
+        room,
+        spare,
+        out,
+        start,
+    );
+    let next = done.console;
+    let end = put_where(
         writes(task),
         number,
         notes,
@@ -341,17 +384,30 @@ fn answer(
         spare,
         out,
         start,
-        end,
+        done.at,
     );
     Done {
-        session: done,
+        console: next,
+        end,
         length: planned.length,
         before,
         start,
         is_left: false,
         is_file: planned.is_file,
-        is_told: done.waiting != end,
+        is_told: end != done.at,
     }
+}
+
+// Whether an answer is written and nothing else: it is neither `error` nor `refused`, and not compared. Most are so.
+fn is_plain(is_comparing: bool, out: &[u8], start: usize, end: usize) -> bool {
+    if end <= start {
+        return false;
+    }
+    if out.len() <= start {
+        return false;
+    }
+    let letter = out[start];
+    !is_comparing & ((letter != b'e') & (letter != b'r'))
 }
 
 // Takes what is left of the part read, up to the end of one line.
@@ -370,21 +426,22 @@ fn take(
     notes: &mut Notes,
     wanted: &mut Part,
 ) -> Turn {
-    let session = now.session;
-    let reached = gathered(line, session.length, part, now.from, now.filled);
-    let mut begun = session;
-    begun.length = reached.length;
+    let reached = gathered(line, now.length, part, now.from, now.filled);
     let mut next = now;
     next.from = reached.taken;
-    next.session = begun;
+    next.length = reached.length;
     if !reached.ended {
         return next;
     }
+    next.length = 0;
     next.number = wrapping_add_u64(now.number, 1);
+    let console = now.console;
     let done = answer(
         way,
         next.number,
-        begun,
+        console,
+        reached.length,
+        now.waiting,
         line,
         memory,
         queue,
@@ -393,6 +450,12 @@ fn take(
         out,
         notes,
     );
+    if is_plain(way.is_comparing, out, done.start, done.end) {
+        let held = done.console;
+        next.console = held;
+        next.waiting = done.end;
+        return next;
+    }
     tell(
         way,
         name,
@@ -426,8 +489,7 @@ pub fn step(
     if now.filled <= now.from {
         return refill(way, name, now, part, out);
     }
-    let session = now.session;
-    if WAITING < session.waiting {
+    if WAITING < now.waiting {
         return flush(way, now, out);
     }
     let taken = take(
