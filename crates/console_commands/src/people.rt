@@ -2,6 +2,7 @@
 use crate::Console;
 use console_chip::answers::error;
 use console_show::help;
+use console_show::help_on;
 use console_show::help_refusals;
 use console_show::show;
 use console_show::show_arrays;
@@ -25,7 +26,11 @@ fn told(console: Console, command: PeopleCommand, one: &[u8], out: &mut [u8]) ->
             if same(one, b"refusals") {
                 return help_refusals(out, 0);
             }
-            error(out, 0)
+            let next = help_on(one, out, 0);
+            if next == 0 {
+                return error(out, 0);
+            }
+            next
         }
     }
 }

@@ -33,6 +33,9 @@ feed HEX            append bytes to the device's queue, at most 70000 in all
 fill N BYTE         append N copies of a byte to it
 room N BYTE         a new device room of N bytes, at most 70000
 out ADDR N          show N bytes of the room
+dump ADDR N         memory in rows, with addresses and letters, at most 16384
+queue               show the bytes of the device's queue
+empty               empty it
 ",
     )
 }
@@ -113,6 +116,9 @@ feed 0101000101a7
 fill 512 0x90
 room 16 0xff        # 16 bytes for a device, each ff
 out 0 16
+dump 0x100 32
+queue
+empty
 f.poke 0x100 hold.bin
 f.peek 0x100 12 hold.bin
 f.feed sector.bin

@@ -63,7 +63,7 @@ fn word_end(s: &[u8], at: usize) -> usize
 }
 
 // The next word from `at` on.
-fn word(s: &[u8], at: usize) -> Span
+pub fn word(s: &[u8], at: usize) -> Span
     requires { ⌜ at ≤ length (now s) ⌝ }
     ensures { λ r. ⌜ (r ≡ wordAt (now (s .entry)) at) × (r .from ≤ r .to) × (r .to ≤ length (now (s .entry))) ⌝ }
 {

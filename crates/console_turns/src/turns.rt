@@ -410,7 +410,8 @@ fn is_plain(is_comparing: bool, out: &[u8], start: usize, end: usize) -> bool {
     !is_comparing & ((letter != b'e') & (letter != b'r'))
 }
 
-// Takes what is left of the part read, up to the end of one line.
+// Takes what is left of the part read, line by line, up to one of which there is something to tell: in a loop here, for a turn is
+// dear to hand on.
 fn take(
     way: Way,
     name: &[u8],
@@ -426,51 +427,59 @@ fn take(
     notes: &mut Notes,
     wanted: &mut Part,
 ) -> Turn {
-    let reached = gathered(line, now.length, part, now.from, now.filled);
     let mut next = now;
-    next.from = reached.taken;
-    next.length = reached.length;
-    if !reached.ended {
-        return next;
-    }
-    next.length = 0;
-    next.number = wrapping_add_u64(now.number, 1);
-    let console = now.console;
-    let done = answer(
-        way,
-        next.number,
-        console,
-        reached.length,
-        now.waiting,
-        line,
-        memory,
-        queue,
-        room,
-        spare,
-        out,
-        notes,
-    );
-    if is_plain(way.is_comparing, out, done.start, done.end) {
+    // each turn takes a byte at least
+    let mut turns = now.filled;
+    while turns > 0 {
+        turns -= 1;
+        let reached = gathered(line, next.length, part, next.from, next.filled);
+        next.from = reached.taken;
+        next.length = reached.length;
+        if !reached.ended {
+            return next;
+        }
+        next.length = 0;
+        next.number = wrapping_add_u64(next.number, 1);
+        let console = next.console;
+        let done = answer(
+            way,
+            next.number,
+            console,
+            reached.length,
+            next.waiting,
+            line,
+            memory,
+            queue,
+            room,
+            spare,
+            out,
+            notes,
+        );
+        if !is_plain(way.is_comparing, out, done.start, done.end) {
+            return tell(
+                way,
+                name,
+                expected,
+                next,
+                done,
+                line,
+                spare,
+                out,
+                notes,
+                wanted,
+            );
+        }
         let held = done.console;
         next.console = held;
         next.waiting = done.end;
-        return next;
+        if WAITING < next.waiting {
+            return next;
+        }
     }
-    tell(
-        way,
-        name,
-        expected,
-        next,
-        done,
-        line,
-        spare,
-        out,
-        notes,
-        wanted,
-    )
+    next
 }
 
-// One turn: more is read, or a line is taken.
+// One turn: more is read, or lines are taken.
 pub fn step(
     way: Way,
     name: &[u8],
