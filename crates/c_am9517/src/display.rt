@@ -3,7 +3,8 @@ use am9517::Controller;
 ghost use mathlib.Core.Path.{_≡_};
 ghost use Rattle.am9517.specs.Serving.{requests, setOf};
 
-// The requesting channels, as four bits: those that are entitled once nothing is masked and the chip isn't disabled.
+// The requesting channels, as four bits: those that are entitled once nothing is masked and the chip isn't
+// disabled. Of the command bit 6, DREQ active low, stays.
 pub(crate) fn requesting_set(c: Controller) -> u8
     ensures { λ r. ⌜ r ≡ setOf (requests c) ⌝ }
 {

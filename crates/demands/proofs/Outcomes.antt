@@ -79,72 +79,84 @@ one-outcome-of-calls =
     record {
       cCheck = record {
         promise = λ κs a r e. r ≡ lookOf (a .0 .now) 0 .refusal;
+        entered = λ M 𝓤 H A mem run κs a. tt;
         free = λ M 𝓤 H A mem run κs a g. refl;
         says = λ M 𝓤 H A mem run κs a g r e. refl;
         single = λ κs a x y l l' p q. (same p q, refl);
       };
       cWrite = record {
         promise = λ κs a r e. left (e .0 .now) (told r 0) ≡ callOf (writeOf (a .0 .now) (a .1 .0) (a .1 .1 .0));
+        entered = λ M 𝓤 H A mem run κs a. tt;
         free = λ M 𝓤 H A mem run κs a g. refl;
         says = λ M 𝓤 H A mem run κs a g r e. refl;
         single = λ κs a x y l l' p q. (ap (λ (g : Left). g .said .refusal) (same p q), ap (λ (g : Left). (g .chip, (tt, (tt, tt)))) (same p q));
       };
       cRead = record {
         promise = λ κs a r e. left (e .0 .now) r ≡ callOf (readOf (a .0 .now) (a .1 .0));
+        entered = λ M 𝓤 H A mem run κs a. tt;
         free = λ M 𝓤 H A mem run κs a g. refl;
         says = λ M 𝓤 H A mem run κs a g r e. refl;
         single = λ κs a x y l l' p q. (ap (λ (g : Left). g .said) (same p q), ap (λ (g : Left). (g .chip, (tt, tt))) (same p q));
       };
       cPins = record {
         promise = λ κs a r e. left (e .0 .now) (told r 0) ≡ callOf (pinsOf (a .0 .now) (a .1 .0));
+        entered = λ M 𝓤 H A mem run κs a. tt;
         free = λ M 𝓤 H A mem run κs a g. refl;
         says = λ M 𝓤 H A mem run κs a g r e. refl;
         single = λ κs a x y l l' p q. (ap (λ (g : Left). g .said .refusal) (same p q), ap (λ (g : Left). (g .chip, (tt, tt))) (same p q));
       };
       cReset = record {
         promise = λ κs a r e. left (e .0 .now) (told r 0) ≡ callOf (resetOf (a .0 .now));
+        entered = λ M 𝓤 H A mem run κs a. tt;
         free = λ M 𝓤 H A mem run κs a g. refl;
         says = λ M 𝓤 H A mem run κs a g r e. refl;
         single = λ κs a x y l l' p q. (ap (λ (g : Left). g .said .refusal) (same p q), ap (λ (g : Left). (g .chip, tt)) (same p q));
       };
       cGrant = record {
         promise = λ κs a r e. left (e .0 .now) r ≡ callOf (grantOf (a .0 .now));
+        entered = λ M 𝓤 H A mem run κs a. tt;
         free = λ M 𝓤 H A mem run κs a g. refl;
         says = λ M 𝓤 H A mem run κs a g r e. refl;
         single = λ κs a x y l l' p q. (ap (λ (g : Left). g .said) (same p q), ap (λ (g : Left). (g .chip, tt)) (same p q));
       };
       cEntitled = record {
         promise = λ κs a r e. r ≡ lookOf (a .0 .now) (setOf (entitled (a .0 .now)));
+        entered = λ M 𝓤 H A mem run κs a. tt;
         free = λ M 𝓤 H A mem run κs a g. refl;
         says = λ M 𝓤 H A mem run κs a g r e. refl;
         single = λ κs a x y l l' p q. (same p q, refl);
       };
       cStatus = record {
         promise = λ κs a r e. r ≡ lookOf (a .0 .now) (status (a .0 .now));
+        entered = λ M 𝓤 H A mem run κs a. tt;
         free = λ M 𝓤 H A mem run κs a g. refl;
         says = λ M 𝓤 H A mem run κs a g r e. refl;
         single = λ κs a x y l l' p q. (same p q, refl);
       };
       cRun = record {
         promise = λ κs a r e. runLeft (e .0 .now) r (e .1 .0 .now) (e .1 .1 .1 .0 .now) ≡ runCallOf (ranOf (a .0 .now) (a .1 .0 .now) (a .1 .1 .0 .now) (a .1 .1 .1 .0 .now) (a .1 .1 .1 .1 .0) (a .1 .1 .1 .1 .1 .0));
+        entered = λ M 𝓤 H A mem run κs a. tt;
         free = λ M 𝓤 H A mem run κs a g. refl;
         says = λ M 𝓤 H A mem run κs a g r e. refl;
         single = λ κs a x y l l' p q. (ap (λ (g : RunLeft). g .said) (same p q), ap (λ (g : RunLeft). (g .chip, (g .memory, (tt, (g .room, (tt, (tt, tt))))))) (same p q));
       };
       cRound = record {
         promise = λ κs a r e. roundLeft (e .0 .now) r (e .1 .0 .now) (e .1 .1 .1 .0 .now) ≡ roundCallOf (roundedOf (a .0 .now) (a .1 .0 .now) (a .1 .1 .0 .now) (a .1 .1 .1 .0 .now) (a .1 .1 .1 .1 .0));
+        entered = λ M 𝓤 H A mem run κs a. tt;
         free = λ M 𝓤 H A mem run κs a g. refl;
         says = λ M 𝓤 H A mem run κs a g r e. refl;
         single = λ κs a x y l l' p q. (ap (λ (g : RoundLeft). g .said) (same p q), ap (λ (g : RoundLeft). (g .chip, (g .memory, (tt, (g .room, (tt, tt)))))) (same p q));
       };
       cSave = record {
         promise = λ κs a r e. saved r (e .1 .0 .now) ≡ saveOf (sheetWriteOf One (a .0 .now) (a .1 .0 .now));
+        entered = λ M 𝓤 H A mem run κs a. tt;
         free = λ M 𝓤 H A mem run κs a g. refl;
         says = λ M 𝓤 H A mem run κs a g r e. refl;
         single = λ κs a x y l l' p q. (ap (λ (g : Saved). g .refusal) (same p q), ap (λ (g : Saved). (tt, (g .sheet, tt))) (same p q));
       };
       cLoad = record {
         promise = λ κs a r e. left (e .0 .now) (told r 0) ≡ loadOf (sheetReadOf One (a .0 .now) (a .1 .0 .now));
+        entered = λ M 𝓤 H A mem run κs a. tt;
         free = λ M 𝓤 H A mem run κs a g. refl;
         says = λ M 𝓤 H A mem run κs a g r e. refl;
         single = λ κs a x y l l' p q. (ap (λ (g : Left). g .said .refusal) (same p q), ap (λ (g : Left). (g .chip, (tt, tt))) (same p q));

@@ -46,7 +46,7 @@ pub record Spoken : Type 0 where
   pub beside : List ℕ
   pub leaves : Scene
 
--- a look changes nothing
+-- a look changes nothing: the chip is lent by `&`
 abbrev pub looked : Controller → Told → Spoken
 looked s t = record { refusal = t .refusal; beside = t .value ∷ []; leaves = scene s [] [] [] }
 
@@ -71,7 +71,7 @@ roundBy l =
       leaves = scene (l .chip) (l .memory) (l .room) [];
     }
 
--- a save leaves the chip
+-- a save leaves the chip, which is lent by `&`
 abbrev pub savedBy : Controller → Saved → Spoken
 savedBy s w = record { refusal = w .refusal; beside = []; leaves = scene s [] [] (w .sheet) }
 
