@@ -15,36 +15,11 @@ ghost use Rattle.console_session.specs.Script.{answerOf, gathered, gathe
 // The longest line that is read; the line's array has two places more, for a carriage return and for one too many.
 const LONGEST: usize = 200000;
 
-// What is kept from part to part: what the console holds, how many characters of the line under way stand in its array,
-// and how many bytes of answers wait.
-pub struct Session {
-    pub console: Console,
-    pub length: usize,
-    pub waiting: usize,
-}
-
-// The session after a line or the end of a part, and how many bytes of the part were taken.
-pub struct Fed {
-    pub session: Session,
-    pub taken: usize,
-}
-
 // How far a line under way has come: its length in its array, the place in the part behind it, and whether it has ended.
 pub struct Reached {
     pub length: usize,
     pub taken: usize,
     pub ended: bool,
-}
-
-impl Session {
-    pub fn start() -> Session {
-        let console = Console::fresh();
-        Session {
-            console,
-            length: 0,
-            waiting: 0,
-        }
-    }
 }
 
 // Characters go to the line's array up to a newline or the part's end; those that find no room are left out.
@@ -92,65 +67,4 @@ pub fn answer(
     }
     let n = said(line);
     execute(console, &line[0..n], memory, queue, room, spare, out, at)
-}
-
-// Takes a part from `from` on, up to the end of one line.
-pub fn feed(
-    session: Session,
-    part: &[u8],
-    from: usize,
-    line: &mut [u8],
-    memory: &mut [u8],
-    queue: &mut [u8],
-    room: &mut [u8],
-    spare: &mut [u8],
-    out: &mut [u8],
-) -> Fed {
-    let reached = gather(line, session.length, part, from);
-    let console = session.console;
-    let waiting = session.waiting;
-    let length = reached.length;
-    let taken = reached.taken;
-    if !reached.ended {
-        let under_way = Session {
-            console,
-            length,
-            waiting,
-        };
-        return Fed {
-            session: under_way,
-            taken,
-        };
-    }
-    if line.len() < length {
-        let begun = Session {
-            console,
-            length: 0,
-            waiting,
-        };
-        return Fed {
-            session: begun,
-            taken,
-        };
-    }
-    let done = answer(
-        console,
-        &line[0..length],
-        memory,
-        queue,
-        room,
-        spare,
-        out,
-        waiting,
-    );
-    let next = done.console;
-    let begun = Session {
-        console: next,
-        length: 0,
-        waiting: done.at,
-    };
-    Fed {
-        session: begun,
-        taken,
-    }
 }

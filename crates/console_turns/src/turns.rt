@@ -8,8 +8,8 @@ use console_files::Plan;
 use console_files::Task;
 use console_files::prepare;
 use console_files::put_file;
-use console_session::Session;
-use console_session::feed;
+use console_session::Reached;
+use console_session::gather;
 use console_text::line::said;
 use console_text::page::byte;
 use console_text::page::text;
@@ -78,13 +78,6 @@ pub(crate) struct Done {
     pub is_left: bool,
     pub is_file: bool,
     pub is_told: bool,
-}
-
-// How far a line under way has come.
-struct Reached {
-    length: usize,
-    taken: usize,
-    ended: bool,
 }
 
 // Says in words why a call on this thing failed.
@@ -165,29 +158,6 @@ fn refill(way: Way, name: &[u8], now: Turn, part: &mut Part, out: &Out) -> Turn 
     }
     ask(way.is_asking, flushed.length);
     read_more(way, name, flushed, part)
-}
-
-// Characters go to the line's array up to a newline or the part's end; those that find no room are left out.
-fn gather(line: &mut [u8], length: usize, part: &[u8], from: usize) -> Reached {
-    let mut next = length;
-    let mut i = from;
-    while i < part.len() {
-        let b = part[i];
-        i += 1;
-        if b == b'\n' {
-            return Reached {
-                length: next,
-                taken: i,
-                ended: true,
-            };
-        }
-        next = byte(line, next, b);
-    }
-    Reached {
-        length: next,
-        taken: i,
-        ended: false,
-    }
 }
 
 fn gathered(line: &mut Line, length: usize, part: &Part, from: usize, filled: usize) -> Reached {
@@ -319,18 +289,20 @@ fn ask_console(
     out: &mut Out,
     at: usize,
 ) -> Executed {
-    let session = Session {
-        console,
-        length,
-        waiting: at,
-    };
-    let fed = feed(session, b"\n", 0, line, memory, queue, room, spare, out);
-    let done = fed.session;
-    let next = done.console;
-    Executed {
-        console: next,
-        at: done.waiting,
+    let all: &[u8] = line;
+    if all.len() < length {
+        return Executed { console, at };
     }
+    console_session::answer(
+        console,
+        &all[0..length],
+        memory,
+        queue,
+        room,
+        spare,
+        out,
+        at,
+    )
 }
 
 // The line in its array is answered.
