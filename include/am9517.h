@@ -69,32 +69,32 @@ extern "C" {
 /* Document 01's refusal numbers. */
 enum am9517_refusal {
     AM9517_OK = 0,
-    AM9517_STATE_RANGE = 1,   /* a field of the chip is out of its range */
-    AM9517_NUMBER = 2,        /* register over 15, pins over 15, or more than 4,096 services asked for */
-    AM9517_IN_SERVICE = 3,    /* register access, grant or round during a service */
-    AM9517_REGISTER = 4,      /* read of 9, A, B, C, E or F, or write of E */
-    AM9517_MODE = 5,          /* mode byte with bits 3-2 = 11 and bits 7-6 not 11 */
-    AM9517_NOBODY = 6,        /* grant with no entitled channel */
-    AM9517_MEMORY = 7,        /* memory not of 65,536 bytes */
-    AM9517_NO_SERVICE = 8,    /* run with no service open */
-    AM9517_SHEET_SHORT = 9,   /* slice under 56 bytes for a sheet */
-    AM9517_END_MARK = 10,     /* the sheet's last two bytes are not 44h, 4Dh */
-    AM9517_FORM = 11,         /* its form is not 1 */
-    AM9517_DISTANCE = 12,     /* its distance from trailer to body is not 48 */
-    AM9517_SUM = 13,          /* its sum is not that of its 48 body bytes */
-    AM9517_RANGE = 14         /* it is sealed, and breaks a range */
+    AM9517_STATE_RANGE = 1,      /* a field of the chip is out of its range */
+    AM9517_NUMBER = 2,           /* register over 15, pins over 15, or more than 4,096 services asked for */
+    AM9517_IN_SERVICE = 3,       /* register access, grant or round during a service */
+    AM9517_REGISTER = 4,         /* read of 9, A, B, C, E or F, or write of E */
+    AM9517_MODE = 5,             /* mode byte with bits 3-2 = 11 and bits 7-6 not 11 */
+    AM9517_NOBODY = 6,           /* grant with no entitled channel */
+    AM9517_MEMORY_LENGTH = 7,    /* memory not of 65,536 bytes */
+    AM9517_NO_SERVICE = 8,       /* run with no service open */
+    AM9517_SHEET_SHORT = 9,      /* slice under 56 bytes for a sheet */
+    AM9517_SHEET_END_MARK = 10,  /* the sheet's last two bytes are not 44h, 4Dh */
+    AM9517_SHEET_FORM = 11,      /* its form is not 1 */
+    AM9517_SHEET_DISTANCE = 12,  /* its distance from trailer to body is not 48 */
+    AM9517_SHEET_SUM = 13,       /* its sum is not that of its 48 body bytes */
+    AM9517_SHEET_RANGE = 14      /* it is sealed, and breaks a range */
 };
 
 /* Why a run or a round stopped. */
 enum am9517_reason {
-    AM9517_REFUSED = 0,  /* it was refused: see the refusal */
-    AM9517_ENDED = 1,    /* the service ended: TC, EOP, or a single transfer done */
-    AM9517_DROPPED = 2,  /* the line of a demand or cascade channel went inactive: the service ended */
-    AM9517_CASCADE = 3,  /* a cascade channel holds the bus: the service stays open, nothing moves */
-    AM9517_LIMIT = 4,    /* the limit was reached: the service stays open */
-    AM9517_SHORT = 5,    /* no device byte or no room left: the service stays open */
-    AM9517_DONE = 6,     /* rounds only: all services asked for were begun */
-    AM9517_QUIET = 7     /* rounds only: nobody is entitled */
+    AM9517_REASON_REFUSED = 0,  /* it was refused: see the refusal */
+    AM9517_REASON_ENDED = 1,    /* the service ended: TC, EOP, or a single transfer done */
+    AM9517_REASON_DROPPED = 2,  /* the line of a demand or cascade channel went inactive: the service ended */
+    AM9517_REASON_CASCADE = 3,  /* a cascade channel holds the bus: the service stays open, nothing moves */
+    AM9517_REASON_LIMIT = 4,    /* the limit was reached: the service stays open */
+    AM9517_REASON_SHORT = 5,    /* no device byte or no room left: the service stays open */
+    AM9517_REASON_DONE = 6,     /* rounds only: all services asked for were begun */
+    AM9517_REASON_QUIET = 7     /* rounds only: nobody is entitled */
 };
 
 /* One channel: 10 bytes, aligned to 2. The byte behind `mode` is padding. */
@@ -152,20 +152,20 @@ typedef struct am9517_round_told {
 
 /* The structs lie as the library has them. C99 has no words for this; a build as C11 or C++11 asks. */
 #if defined(__cplusplus) && __cplusplus >= 201103L
-#define AM9517_ASK(holds) static_assert(holds, #holds)
-#define AM9517_ALIGNED(type) alignof(type)
+#define AM9517_HEADER_ASK_(holds) static_assert(holds, #holds)
+#define AM9517_HEADER_ALIGNED_(type) alignof(type)
 #elif !defined(__cplusplus) && defined(__STDC_VERSION__) && __STDC_VERSION__ >= 201112L
-#define AM9517_ASK(holds) _Static_assert(holds, #holds)
-#define AM9517_ALIGNED(type) _Alignof(type)
+#define AM9517_HEADER_ASK_(holds) _Static_assert(holds, #holds)
+#define AM9517_HEADER_ALIGNED_(type) _Alignof(type)
 #endif
-#ifdef AM9517_ASK
-AM9517_ASK(sizeof(size_t) == 8);
-AM9517_ASK(sizeof(am9517_channel) == 10 && AM9517_ALIGNED(am9517_channel) == 2);
-AM9517_ASK(sizeof(am9517_chip) == 52 && AM9517_ALIGNED(am9517_chip) == 2);
-AM9517_ASK(offsetof(am9517_channel, mode) == 8 && offsetof(am9517_chip, tc) == 40 && offsetof(am9517_chip, command) == 51);
-AM9517_ASK(sizeof(am9517_told) == 8 && sizeof(am9517_run_told) == 40 && sizeof(am9517_round_told) == 56);
-#undef AM9517_ASK
-#undef AM9517_ALIGNED
+#ifdef AM9517_HEADER_ASK_
+AM9517_HEADER_ASK_(sizeof(size_t) == 8);
+AM9517_HEADER_ASK_(sizeof(am9517_channel) == 10 && AM9517_HEADER_ALIGNED_(am9517_channel) == 2);
+AM9517_HEADER_ASK_(sizeof(am9517_chip) == 52 && AM9517_HEADER_ALIGNED_(am9517_chip) == 2);
+AM9517_HEADER_ASK_(offsetof(am9517_channel, mode) == 8 && offsetof(am9517_chip, tc) == 40 && offsetof(am9517_chip, command) == 51);
+AM9517_HEADER_ASK_(sizeof(am9517_told) == 8 && sizeof(am9517_run_told) == 40 && sizeof(am9517_round_told) == 56);
+#undef AM9517_HEADER_ASK_
+#undef AM9517_HEADER_ALIGNED_
 #endif
 
 /* AM9517_VERSION of the library that is linked: its major number must be the header's. */
