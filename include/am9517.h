@@ -9,24 +9,26 @@
  * is the rules of this controller: "One Am9517A in software: rules and limits".
  *
  * PLATFORM. x86-64 Linux, the System V calling convention, 64-bit pointers: the library is machine code for it and for
- * nothing else. Of the C library it wants memset alone. It has no variables, allocates nothing, reads no clock, never
- * prints, exits or aborts, and has no unwind tables: an exception can't arise in it, and it calls nothing of the host's.
+ * nothing else. Of the C library it wants memset alone. The shared library names the GNU C library, of any age: with
+ * another C library link the archive. It has no variables, allocates nothing, reads no clock, never prints, exits or
+ * aborts, and has no unwind tables: an exception can't arise in it, and it calls nothing of the host's.
  *
  * THE CHIP is a struct that the caller owns, with the registers as fields: read them, show them, copy the struct, keep
  * many. A host may also set fields; a chip that is out of the ranges told beside the fields is refused by 1 instead of
  * running wild. A zeroed struct is within its ranges but not fresh (nothing is masked): begin with am9517_fresh. The struct
- * has 52 bytes and is aligned to 2. Behind each `mode` lies a byte of padding that means nothing and may change in a call:
- * compare chips by their fields or by their sheets, not by memcmp.
+ * has 52 bytes and is aligned to 2. Behind each `mode` lies a byte of padding that means nothing, need not even be 0 in a
+ * fresh chip and may change in a call: compare chips by their fields or by their sheets, not by memcmp.
  *
- * REFUSALS. Each call says a refusal number, 0 for none. Where several hold it is the first in the order that stands with
- * the call. A refused call changes no field of the chip and no byte of memory, room or sheet, and the other numbers of its
- * answer are 0. All numbers may be given in full: a register over 15, a limit of 2^64 - 1 and the like have defined answers.
- * A `byte` is uint8_t: C itself narrows what is given, so am9517_write(&chip, 8, 0x110) writes 10h; ask before if the number may
- * be larger.
+ * REFUSALS. Each call but am9517_version, am9517_fresh and the two texts says a refusal number, 0 for none. Where several
+ * hold it is the first in the order that stands with the call. A refused call changes no field of the chip and no byte of
+ * memory, room or sheet, and the other numbers of its answer are 0. All numbers may be given in full: a register over 15, a
+ * limit of 2^64 - 1 and the like have defined answers. A `byte` is uint8_t: C itself narrows what is given, so
+ * am9517_write(&chip, 8, 0x110) writes 10h; ask before if the number may be larger.
  *
- * AREAS are a pointer and a number of bytes. What one call is lent must not overlap: chip, memory, device, room or sheet are
- * different areas, and the compiler relies on it. (Two chips may share one memory, in calls one after the other.) A pointer
- * to a chip is never NULL. An area of 0 bytes is never looked into; its pointer may be anything, NULL too.
+ * AREAS are a pointer and a number of bytes. What one call is lent must not overlap: chip, memory, device, room or sheet
+ * are different areas, and the compiler relies on it. (Two chips may share one memory, in calls one after the other.) A
+ * pointer to a chip is never NULL and lies at an even address. An area of 0 bytes is never looked into; its pointer may be
+ * anything, NULL too.
  *
  * THREADS. The library keeps nothing between two calls. Calls that share no area may run at the same time: two chips, each
  * with a memory of its own. The looking calls, whose chip is const (am9517_check, am9517_entitled, am9517_status, am9517_save),

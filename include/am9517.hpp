@@ -71,7 +71,8 @@ inline constexpr std::uint64_t no_limit = ~std::uint64_t{0};
 using Memory = std::array<std::uint8_t, AM9517_MEMORY_SIZE>;
 using Sheet = std::array<std::uint8_t, AM9517_SHEET_SIZE>;
 
-// ---- spans: a pointer and a length, from std::vector, std::array, arrays, std::span and whatever has data() and size()
+// ---- spans: a pointer and a length, from std::vector, std::array, arrays, std::span and whatever has data() and size(). A span
+// doesn't own: keep none of a temporary.
 
 template <class Byte>
 class Span {
