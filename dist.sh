@@ -13,7 +13,8 @@ takes it, and the console as a pier runs it, with no toolchain.
 
 needs   the Rattle toolchain (its command rt), whose own linker makes the shared library
 writes  FOLDER: include/, lib/, share/man, examples/, rack/, install.sh, LICENSE, README,
-        in place of an old one; target/; with --install DESTDIR/PREFIX
+        in place of what this script made there before, and of nothing else; target/;
+        with --install DESTDIR/PREFIX
 takes   minutes, for the proofs; seconds where all is proved
 TEXT
 }
@@ -28,9 +29,25 @@ fail() {
     exit 1
 }
 
+# whole FOLDER: its whole path, from the caller's folder
+whole() {
+    case $1 in
+        /*) readlink -m -- "$1" ;;
+        *) readlink -m -- "$called/$1" ;;
+    esac
+}
+
+# made FOLDER: whether this script made it, and nothing else lies in it
+made() {
+    [ -x "$1/rack/rack" ] && [ -x "$1/install.sh" ] && [ "$(sed -n 4p "$1/install.sh")" = "$(sed -n 4p packaging/install.sh)" ] \
+        && ! ls -A -- "$1" | grep -qvxE 'LICENSE|README|examples|include|install\.sh|lib|rack|share'
+}
+
 set -eu
+unset CDPATH
+umask 022
 called=$PWD
-cd "$(dirname "$0")"
+cd -- "$(dirname -- "$(readlink -f -- "$0")")"
 out=$PWD/dist
 install=
 while [ $# -gt 0 ]; do
@@ -39,18 +56,20 @@ while [ $# -gt 0 ]; do
         --install) install=yes ;;
         --to)
             [ -n "${2-}" ] || refuse "--to wants a folder"
-            case $2 in /*) out=$2 ;; *) out=$called/$2 ;; esac
+            out=$(whole "$2")
             shift ;;
         *) refuse "$1 is unknown" ;;
     esac
     shift
 done
-if ! command -v rt > /dev/null 2>&1; then
-    [ ! -x "$out/install.sh" ] || echo "dist: what $out has from earlier can be installed with no toolchain: $out/install.sh" >&2
-    fail "the Rattle toolchain (its command rt) is not installed, or not on PATH, and only it proves and makes the library"
+if [ -n "$install" ]; then
+    case ${PREFIX:-/usr/local} in /*) ;; *) refuse "PREFIX is to be a whole path, not '$PREFIX'" ;; esac
+    if [ -n "${DESTDIR-}" ]; then DESTDIR=$(whole "$DESTDIR"); export DESTDIR; fi
 fi
-if [ -e "$out" ] && [ ! -e "$out/install.sh" ] && [ ! -e "$out/lib/libam9517.a" ]; then
-    fail "$out is there and is no distribution: it isn't replaced"
+if [ -e "$out" ] && ! made "$out"; then fail "$out is there and isn't what this script made alone: it isn't replaced"; fi
+if ! command -v rt > /dev/null 2>&1; then
+    [ ! -e "$out" ] || echo "dist: what $out has from earlier can be installed with no toolchain: $out/install.sh" >&2
+    fail "the Rattle toolchain (its command rt) is not installed, or not on PATH, and only it proves and makes the library"
 fi
 
 version=$(sed -n 's/^#define AM9517_VERSION_\(MAJOR\|MINOR\|PATCH\) //p' include/am9517.h | paste -sd. -)
@@ -60,8 +79,12 @@ tools=$(dirname -- "$(dirname -- "$(readlink -f -- "$(rt doc)")")")/on/$(uname -
 rt staticlib c_am9517
 rt check rack
 
-new=$out.new
-rm -rf -- "$new"
+# beside its place, under a name that nothing has; what fails leaves the old one as it was
+mkdir -p -- "$(dirname -- "$out")"
+beside=$(mktemp -d -- "$out.XXXXXX")
+trap 'rm -rf -- "$beside"' EXIT
+trap 'exit 1' HUP INT TERM
+new=$beside/new
 mkdir -p -- "$new/include" "$new/lib/pkgconfig" "$new/lib/cmake/am9517" "$new/share/man/man3" "$new/examples" "$new/rack/bin" "$new/rack/examples"
 
 # filled SOURCE TARGET: with the header's version
@@ -93,7 +116,9 @@ chmod 755 "$new/rack/rack" "$new/rack/bin/rack"
 for script in examples/*.rack; do cp "$script" "${script%.rack}.out" "$new/rack/examples/"; done
 cp docs/CONSOLE.md LICENSE "$new/rack/"
 
-rm -rf -- "$out"
+trap '' HUP INT TERM
+[ ! -e "$out" ] || mv -- "$out" "$beside/old"
 mv -- "$new" "$out"
+trap - HUP INT TERM
 echo "dist: $out is made, version $version: include/ lib/ share/ examples/ rack/ install.sh"
 [ -z "$install" ] || "$out/install.sh"

@@ -22,17 +22,25 @@ CALLS = {"version": (c_uint32, []), "fresh": (Chip, []), "write": (c_uint32, [PO
          "run": (Ran, [POINTER(Chip), *AREA, *AREA, *AREA, c_uint64, c_uint64])}
 
 
+def ok(refusal):
+    if refusal:
+        raise SystemExit("refused %d" % refusal)
+
+
 def main(path="libam9517.so.2"):
     library = ctypes.CDLL(path)
     call = {name: ctypes.CFUNCTYPE(result, *arguments)(("am9517_" + name, library)) for name, (result, arguments) in CALLS.items()}
-    assert call["version"]() // 10000 == 2 and ctypes.sizeof(Chip) == 52
+    if call["version"]() // 10000 != 2:
+        raise SystemExit("%s is of another major version" % path)
+    assert ctypes.sizeof(Chip) == 52
     chip, memory, holds = call["fresh"](), ctypes.create_string_buffer(65536), bytes([1, 1, 0, 1, 1, 0, 0, 1, 1, 0, 1, 0xA7])
     for register, byte in [(0xD, 0), (0xB, 0x85), (0xC, 0), (2, 0), (2, 2), (3, 11), (3, 0), (0xA, 1)]:
-        assert call["write"](byref(chip), register, byte) == 0
-    assert call["pins"](byref(chip), 2) == 0
+        ok(call["write"](byref(chip), register, byte))
+    ok(call["pins"](byref(chip), 2))
     grant = call["grant"](byref(chip))
+    ok(grant.refusal)
     run = call["run"](byref(chip), memory, len(memory), holds, len(holds), None, 0, 65536, 0)
-    assert grant.refusal == 0 and run.refusal == 0
+    ok(run.refusal)
     print("channel", grant.value)
     print(f"{REASONS[run.reason]} transfers={run.transfers} used={run.used} states={run.states}")
     print("memory at 0200h:", memory.raw[0x200:0x20C].hex(" "))

@@ -9,24 +9,26 @@
  * is the rules of this controller: "One Am9517A in software: rules and limits".
  *
  * PLATFORM. x86-64 Linux, the System V calling convention, 64-bit pointers: the library is machine code for it and for
- * nothing else. Of the C library it wants memset alone. It has no variables, allocates nothing, reads no clock, never
- * prints, exits or aborts, and has no unwind tables: an exception can't arise in it, and it calls nothing of the host's.
+ * nothing else. Of the C library it wants memset alone. The shared library names the GNU C library, of any age: with
+ * another C library link the archive. It has no variables, allocates nothing, reads no clock, never prints, exits or
+ * aborts, and has no unwind tables: an exception can't arise in it, and it calls nothing of the host's.
  *
  * THE CHIP is a struct that the caller owns, with the registers as fields: read them, show them, copy the struct, keep
  * many. A host may also set fields; a chip that is out of the ranges told beside the fields is refused by 1 instead of
  * running wild. A zeroed struct is within its ranges but not fresh (nothing is masked): begin with am9517_fresh. The struct
- * has 52 bytes and is aligned to 2. Behind each `mode` lies a byte of padding that means nothing and may change in a call:
- * compare chips by their fields or by their sheets, not by memcmp.
+ * has 52 bytes and is aligned to 2. Behind each `mode` lies a byte of padding that means nothing, need not even be 0 in a
+ * fresh chip and may change in a call: compare chips by their fields or by their sheets, not by memcmp.
  *
- * REFUSALS. Each call says a refusal number, 0 for none. Where several hold it is the first in the order that stands with
- * the call. A refused call changes no field of the chip and no byte of memory, room or sheet, and the other numbers of its
- * answer are 0. All numbers may be given in full: a register over 15, a limit of 2^64 - 1 and the like have defined answers.
- * A `byte` is uint8_t: C itself narrows what is given, so am9517_write(&chip, 8, 0x110) writes 10h; ask before if the number may
- * be larger.
+ * REFUSALS. Each call but am9517_version, am9517_fresh and the two texts says a refusal number, 0 for none. Where several
+ * hold it is the first in the order that stands with the call. A refused call changes no field of the chip and no byte of
+ * memory, room or sheet, and the other numbers of its answer are 0. All numbers may be given in full: a register over 15, a
+ * limit of 2^64 - 1 and the like have defined answers. A `byte` is uint8_t: C itself narrows what is given, so
+ * am9517_write(&chip, 8, 0x110) writes 10h; ask before if the number may be larger.
  *
- * AREAS are a pointer and a number of bytes. What one call is lent must not overlap: chip, memory, device, room or sheet are
- * different areas, and the compiler relies on it. (Two chips may share one memory, in calls one after the other.) A pointer
- * to a chip is never NULL. An area of 0 bytes is never looked into; its pointer may be anything, NULL too.
+ * AREAS are a pointer and a number of bytes. What one call is lent must not overlap: chip, memory, device, room or sheet
+ * are different areas, and the compiler relies on it. (Two chips may share one memory, in calls one after the other.) A
+ * pointer to a chip is never NULL and lies at an even address. An area of 0 bytes is never looked into; its pointer may be
+ * anything, NULL too.
  *
  * THREADS. The library keeps nothing between two calls. Calls that share no area may run at the same time: two chips, each
  * with a memory of its own. The looking calls, whose chip is const (am9517_check, am9517_entitled, am9517_status, am9517_save),
@@ -69,32 +71,32 @@ extern "C" {
 /* Document 01's refusal numbers. */
 enum am9517_refusal {
     AM9517_OK = 0,
-    AM9517_STATE_RANGE = 1,   /* a field of the chip is out of its range */
-    AM9517_NUMBER = 2,        /* register over 15, pins over 15, or more than 4,096 services asked for */
-    AM9517_IN_SERVICE = 3,    /* register access, grant or round during a service */
-    AM9517_REGISTER = 4,      /* read of 9, A, B, C, E or F, or write of E */
-    AM9517_MODE = 5,          /* mode byte with bits 3-2 = 11 and bits 7-6 not 11 */
-    AM9517_NOBODY = 6,        /* grant with no entitled channel */
-    AM9517_MEMORY = 7,        /* memory not of 65,536 bytes */
-    AM9517_NO_SERVICE = 8,    /* run with no service open */
-    AM9517_SHEET_SHORT = 9,   /* slice under 56 bytes for a sheet */
-    AM9517_END_MARK = 10,     /* the sheet's last two bytes are not 44h, 4Dh */
-    AM9517_FORM = 11,         /* its form is not 1 */
-    AM9517_DISTANCE = 12,     /* its distance from trailer to body is not 48 */
-    AM9517_SUM = 13,          /* its sum is not that of its 48 body bytes */
-    AM9517_RANGE = 14         /* it is sealed, and breaks a range */
+    AM9517_STATE_RANGE = 1,      /* a field of the chip is out of its range */
+    AM9517_NUMBER = 2,           /* register over 15, pins over 15, or more than 4,096 services asked for */
+    AM9517_IN_SERVICE = 3,       /* register access, grant or round during a service */
+    AM9517_REGISTER = 4,         /* read of 9, A, B, C, E or F, or write of E */
+    AM9517_MODE = 5,             /* mode byte with bits 3-2 = 11 and bits 7-6 not 11 */
+    AM9517_NOBODY = 6,           /* grant with no entitled channel */
+    AM9517_MEMORY_LENGTH = 7,    /* memory not of 65,536 bytes */
+    AM9517_NO_SERVICE = 8,       /* run with no service open */
+    AM9517_SHEET_SHORT = 9,      /* slice under 56 bytes for a sheet */
+    AM9517_SHEET_END_MARK = 10,  /* the sheet's last two bytes are not 44h, 4Dh */
+    AM9517_SHEET_FORM = 11,      /* its form is not 1 */
+    AM9517_SHEET_DISTANCE = 12,  /* its distance from trailer to body is not 48 */
+    AM9517_SHEET_SUM = 13,       /* its sum is not that of its 48 body bytes */
+    AM9517_SHEET_RANGE = 14      /* it is sealed, and breaks a range */
 };
 
 /* Why a run or a round stopped. */
 enum am9517_reason {
-    AM9517_REFUSED = 0,  /* it was refused: see the refusal */
-    AM9517_ENDED = 1,    /* the service ended: TC, EOP, or a single transfer done */
-    AM9517_DROPPED = 2,  /* the line of a demand or cascade channel went inactive: the service ended */
-    AM9517_CASCADE = 3,  /* a cascade channel holds the bus: the service stays open, nothing moves */
-    AM9517_LIMIT = 4,    /* the limit was reached: the service stays open */
-    AM9517_SHORT = 5,    /* no device byte or no room left: the service stays open */
-    AM9517_DONE = 6,     /* rounds only: all services asked for were begun */
-    AM9517_QUIET = 7     /* rounds only: nobody is entitled */
+    AM9517_REASON_REFUSED = 0,  /* it was refused: see the refusal */
+    AM9517_REASON_ENDED = 1,    /* the service ended: TC, EOP, or a single transfer done */
+    AM9517_REASON_DROPPED = 2,  /* the line of a demand or cascade channel went inactive: the service ended */
+    AM9517_REASON_CASCADE = 3,  /* a cascade channel holds the bus: the service stays open, nothing moves */
+    AM9517_REASON_LIMIT = 4,    /* the limit was reached: the service stays open */
+    AM9517_REASON_SHORT = 5,    /* no device byte or no room left: the service stays open */
+    AM9517_REASON_DONE = 6,     /* rounds only: all services asked for were begun */
+    AM9517_REASON_QUIET = 7     /* rounds only: nobody is entitled */
 };
 
 /* One channel: 10 bytes, aligned to 2. The byte behind `mode` is padding. */
@@ -152,20 +154,20 @@ typedef struct am9517_round_told {
 
 /* The structs lie as the library has them. C99 has no words for this; a build as C11 or C++11 asks. */
 #if defined(__cplusplus) && __cplusplus >= 201103L
-#define AM9517_ASK(holds) static_assert(holds, #holds)
-#define AM9517_ALIGNED(type) alignof(type)
+#define AM9517_HEADER_ASK_(holds) static_assert(holds, #holds)
+#define AM9517_HEADER_ALIGNED_(type) alignof(type)
 #elif !defined(__cplusplus) && defined(__STDC_VERSION__) && __STDC_VERSION__ >= 201112L
-#define AM9517_ASK(holds) _Static_assert(holds, #holds)
-#define AM9517_ALIGNED(type) _Alignof(type)
+#define AM9517_HEADER_ASK_(holds) _Static_assert(holds, #holds)
+#define AM9517_HEADER_ALIGNED_(type) _Alignof(type)
 #endif
-#ifdef AM9517_ASK
-AM9517_ASK(sizeof(size_t) == 8);
-AM9517_ASK(sizeof(am9517_channel) == 10 && AM9517_ALIGNED(am9517_channel) == 2);
-AM9517_ASK(sizeof(am9517_chip) == 52 && AM9517_ALIGNED(am9517_chip) == 2);
-AM9517_ASK(offsetof(am9517_channel, mode) == 8 && offsetof(am9517_chip, tc) == 40 && offsetof(am9517_chip, command) == 51);
-AM9517_ASK(sizeof(am9517_told) == 8 && sizeof(am9517_run_told) == 40 && sizeof(am9517_round_told) == 56);
-#undef AM9517_ASK
-#undef AM9517_ALIGNED
+#ifdef AM9517_HEADER_ASK_
+AM9517_HEADER_ASK_(sizeof(size_t) == 8);
+AM9517_HEADER_ASK_(sizeof(am9517_channel) == 10 && AM9517_HEADER_ALIGNED_(am9517_channel) == 2);
+AM9517_HEADER_ASK_(sizeof(am9517_chip) == 52 && AM9517_HEADER_ALIGNED_(am9517_chip) == 2);
+AM9517_HEADER_ASK_(offsetof(am9517_channel, mode) == 8 && offsetof(am9517_chip, tc) == 40 && offsetof(am9517_chip, command) == 51);
+AM9517_HEADER_ASK_(sizeof(am9517_told) == 8 && sizeof(am9517_run_told) == 40 && sizeof(am9517_round_told) == 56);
+#undef AM9517_HEADER_ASK_
+#undef AM9517_HEADER_ALIGNED_
 #endif
 
 /* AM9517_VERSION of the library that is linked: its major number must be the header's. */

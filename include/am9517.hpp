@@ -35,25 +35,25 @@ enum class Refusal : std::uint32_t {
     wrong_register = AM9517_REGISTER,
     mode = AM9517_MODE,
     nobody = AM9517_NOBODY,
-    memory = AM9517_MEMORY,
+    memory_length = AM9517_MEMORY_LENGTH,
     no_service = AM9517_NO_SERVICE,
     sheet_short = AM9517_SHEET_SHORT,
-    end_mark = AM9517_END_MARK,
-    form = AM9517_FORM,
-    distance = AM9517_DISTANCE,
-    sum = AM9517_SUM,
-    range = AM9517_RANGE
+    sheet_end_mark = AM9517_SHEET_END_MARK,
+    sheet_form = AM9517_SHEET_FORM,
+    sheet_distance = AM9517_SHEET_DISTANCE,
+    sheet_sum = AM9517_SHEET_SUM,
+    sheet_range = AM9517_SHEET_RANGE
 };
 
 enum class Reason : std::uint32_t {
-    refused = AM9517_REFUSED,
-    ended = AM9517_ENDED,
-    dropped = AM9517_DROPPED,
-    cascade = AM9517_CASCADE,
-    limit = AM9517_LIMIT,
-    is_short = AM9517_SHORT,
-    done = AM9517_DONE,
-    quiet = AM9517_QUIET
+    refused = AM9517_REASON_REFUSED,
+    ended = AM9517_REASON_ENDED,
+    dropped = AM9517_REASON_DROPPED,
+    cascade = AM9517_REASON_CASCADE,
+    limit = AM9517_REASON_LIMIT,
+    is_short = AM9517_REASON_SHORT,
+    done = AM9517_REASON_DONE,
+    quiet = AM9517_REASON_QUIET
 };
 
 constexpr std::uint32_t number_of(Refusal refusal) noexcept { return static_cast<std::uint32_t>(refusal); }
@@ -71,7 +71,8 @@ inline constexpr std::uint64_t no_limit = ~std::uint64_t{0};
 using Memory = std::array<std::uint8_t, AM9517_MEMORY_SIZE>;
 using Sheet = std::array<std::uint8_t, AM9517_SHEET_SIZE>;
 
-// ---- spans: a pointer and a length, from std::vector, std::array, arrays, std::span and whatever has data() and size()
+// ---- spans: a pointer and a length, from std::vector, std::array, arrays, std::span and whatever has data() and size(). A span
+// doesn't own: keep none of a temporary.
 
 template <class Byte>
 class Span {

@@ -1,9 +1,10 @@
 # find_package(am9517 2.0 REQUIRED) gives the targets am9517::am9517 (the archive) and am9517::shared (the shared library).
 # Both bring the folder of am9517.h and am9517.hpp. The package may be moved: all is found from this file's own place.
 
-if(CMAKE_SYSTEM_PROCESSOR AND NOT CMAKE_SYSTEM_PROCESSOR MATCHES "^(x86_64|amd64|AMD64)$")
+if((CMAKE_SYSTEM_NAME AND NOT CMAKE_SYSTEM_NAME STREQUAL "Linux") OR
+   (CMAKE_SYSTEM_PROCESSOR AND NOT CMAKE_SYSTEM_PROCESSOR MATCHES "^(x86_64|amd64|AMD64)$"))
   set(am9517_FOUND FALSE)
-  set(am9517_NOT_FOUND_MESSAGE "libam9517 is for x86-64 Linux, and this build is for ${CMAKE_SYSTEM_PROCESSOR}")
+  set(am9517_NOT_FOUND_MESSAGE "libam9517 is for x86-64 Linux, and this build is for ${CMAKE_SYSTEM_NAME} on ${CMAKE_SYSTEM_PROCESSOR}")
   return()
 endif()
 

@@ -9,7 +9,8 @@ files of pkg-config and CMake, the manual page, README, LICENSE and examples.
   DESTDIR  a folder that stands for /, for packing: files go to DESTDIR/PREFIX
 
 needs   nothing but a shell; the right to write there
-writes  PREFIX/include, PREFIX/lib, PREFIX/share; for the shared library run ldconfig then
+writes  PREFIX/include, PREFIX/lib, PREFIX/share. Then run ldconfig once, so that programs find
+        the shared library; where it doesn't know PREFIX/lib, link with -Wl,-rpath,PREFIX/lib
 takes   no time to speak of
 TEXT
 }
@@ -19,7 +20,9 @@ case "${1-}" in
 esac
 [ $# -eq 0 ] || { echo "install: $1 is unknown (./install.sh --help tells more)" >&2; exit 2; }
 set -eu
-here=$(cd -- "$(dirname -- "$0")" && pwd)
+unset CDPATH
+umask 022
+here=$(dirname -- "$(readlink -f -- "$0")")
 prefix=${PREFIX:-/usr/local}
 case "$prefix" in
     /*) ;;
@@ -27,6 +30,7 @@ case "$prefix" in
 esac
 to=${DESTDIR-}$prefix
 mkdir -p -- "$to" 2> /dev/null || { echo "install: $to can't be made (PREFIX and DESTDIR say where)" >&2; exit 1; }
+[ "$(readlink -f -- "$to")" != "$here" ] || { echo "install: $to is what is to be installed (PREFIX and DESTDIR say where)" >&2; exit 2; }
 [ -w "$to" ] || { echo "install: $to can't be written (PREFIX and DESTDIR say where)" >&2; exit 1; }
 
 # put MODE FOLDER FILE..: as a new file, so that a program that has the old one open keeps it
@@ -38,7 +42,7 @@ put() {
     for file in "$@"; do
         rm -f -- "$folder/${file##*/}"
         cp -P -- "$file" "$folder/"
-        [ -h "$file" ] || chmod "$mode" "$folder/${file##*/}"
+        [ -h "$file" ] || chmod -- "$mode" "$folder/${file##*/}"
     done
 }
 
@@ -51,4 +55,4 @@ put 644 lib/cmake/am9517 "$here"/lib/cmake/am9517/*
 put 644 share/man/man3 "$here"/share/man/man3/*
 put 644 share/doc/am9517 "$here/README" "$here/LICENSE"
 put 644 share/doc/am9517/examples "$here"/examples/*
-echo "am9517 @VERSION@ is installed in $to"
+echo "am9517 @VERSION@ is installed in $to (run ldconfig for the shared library)"

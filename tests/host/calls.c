@@ -312,19 +312,19 @@ static void runs_to_memory(void)
 {
     am9517_run_told r;
     opened(0x84, 3);
-    refused(run_alone(am9517_run(chip, NULL, 0, device, 4, at.room, ROOM, 9, 0)), AM9517_MEMORY, "no memory");
-    refused(run_over(65535), AM9517_MEMORY, "65,535");
-    refused(run_over(65537), AM9517_MEMORY, "65,537");
-    refused(run_over(131072), AM9517_MEMORY, "131,072");
+    refused(run_alone(am9517_run(chip, NULL, 0, device, 4, at.room, ROOM, 9, 0)), AM9517_MEMORY_LENGTH, "no memory");
+    refused(run_over(65535), AM9517_MEMORY_LENGTH, "65,535");
+    refused(run_over(65537), AM9517_MEMORY_LENGTH, "65,537");
+    refused(run_over(131072), AM9517_MEMORY_LENGTH, "131,072");
     r = am9517_run(chip, at.memory, MEMORY, NULL, 0, NULL, 0, 9, 0);
-    expect(r.refusal == 0 && r.reason == AM9517_SHORT && r.transfers == 0 && r.states == 0, "no device byte", r.reason);
+    expect(r.refusal == 0 && r.reason == AM9517_REASON_SHORT && r.transfers == 0 && r.states == 0, "no device byte", r.reason);
     r = am9517_run(chip, at.memory, MEMORY, device, 4, NULL, 0, 0, 0);
-    expect(r.reason == AM9517_LIMIT && r.used == 0, "limit 0", r.reason);
+    expect(r.reason == AM9517_REASON_LIMIT && r.used == 0, "limit 0", r.reason);
     all_stay("nothing moved", 0);
     r = am9517_run(chip, at.memory, MEMORY, device, 4, NULL, 0, 1, 9);
-    expect(r.reason == AM9517_LIMIT && r.used == 1 && r.states == 4 && chip->latch == 0x12, "one byte", r.used);
+    expect(r.reason == AM9517_REASON_LIMIT && r.used == 1 && r.states == 4 && chip->latch == 0x12, "one byte", r.used);
     r = am9517_run(chip, at.memory, MEMORY, device + r.used, 4 - r.used, NULL, 0, ~(uint64_t)0, 0);
-    expect(r.refusal == AM9517_OK && r.reason == AM9517_ENDED && r.transfers == 3, "ended", r.reason);
+    expect(r.refusal == AM9517_OK && r.reason == AM9517_REASON_ENDED && r.transfers == 3, "ended", r.reason);
     expect(r.used == 3 && r.written == 0 && r.states == 9, "used", r.used);
     expect(memcmp(at.memory + 0x1234, device, 4) == 0, "bytes in memory", at.memory[0x1234]);
     expect(at.memory[0x1233] == 0x55 && at.memory[0x1238] == 0x55 && at.memory[MEMORY] == 0x55, "bytes beside them", 0);
@@ -340,11 +340,11 @@ static void runs_from_memory(void)
     opened(0x88, 3);
     memcpy(at.memory + 0x1234, device, 4);
     r = am9517_run(chip, at.memory, MEMORY, NULL, 0, NULL, 0, 9, 0);
-    expect(r.reason == AM9517_SHORT && r.written == 0, "no room", r.reason);
+    expect(r.reason == AM9517_REASON_SHORT && r.written == 0, "no room", r.reason);
     r = am9517_run(chip, at.memory, MEMORY, NULL, 0, at.room, 1, 9, 0);
-    expect(r.reason == AM9517_SHORT && r.written == 1 && at.room[1] == 0xee, "a room of one", at.room[1]);
+    expect(r.reason == AM9517_REASON_SHORT && r.written == 1 && at.room[1] == 0xee, "a room of one", at.room[1]);
     r = am9517_run(chip, at.memory, MEMORY, NULL, 0, at.room + 1, ROOM - 1, 9, 2);
-    expect(r.reason == AM9517_ENDED && r.transfers == 2 && r.written == 2 && r.used == 0, "EOP at 2", r.transfers);
+    expect(r.reason == AM9517_REASON_ENDED && r.transfers == 2 && r.written == 2 && r.used == 0, "EOP at 2", r.transfers);
     expect(memcmp(at.room, device, 3) == 0 && at.room[3] == 0xee, "bytes in the room", at.room[1]);
     expect(chip->tc == 0 && (chip->mask & 1) == 1, "EOP sets no TC bit", chip->tc);
     expect(guards(), "guards of a run", 1);
@@ -359,14 +359,14 @@ static void whole_memory(void)
     opened(0x84, 0);
     chip->channels[0].count = 0xffff;
     am9517_run_told r = am9517_run(chip, at.memory, MEMORY, all, MEMORY, NULL, 0, 65536, 0);
-    expect(r.reason == AM9517_ENDED && r.transfers == 65536 && r.used == 65536, "65,536 bytes in", (unsigned long)r.transfers);
+    expect(r.reason == AM9517_REASON_ENDED && r.transfers == 65536 && r.used == 65536, "65,536 bytes in", (unsigned long)r.transfers);
     expect(r.states == 196865, "196,865 states", (unsigned long)r.states);
     opened(0x88, 0);
     for (size_t i = 0; i < MEMORY; i++)
         at.memory[(0x1234 + i) % MEMORY] = all[i];
     chip->channels[0].count = 0xffff;
     r = am9517_run(chip, at.memory, MEMORY, NULL, 0, back, MEMORY, 65536, 0);
-    expect(r.reason == AM9517_ENDED && r.written == 65536 && memcmp(all, back, MEMORY) == 0, "65,536 bytes out", (unsigned long)r.written);
+    expect(r.reason == AM9517_REASON_ENDED && r.written == 65536 && memcmp(all, back, MEMORY) == 0, "65,536 bytes out", (unsigned long)r.written);
     expect(guards() && at.memory[MEMORY] == 0x55, "guards of a whole memory", 0);
 }
 
@@ -380,7 +380,7 @@ static uint32_t round_over(size_t memory_size, uint32_t k)
 static void orders(void)
 {
     begin();
-    refused(run_over(65535), AM9517_MEMORY, "run: 7 before 8");
+    refused(run_over(65535), AM9517_MEMORY_LENGTH, "run: 7 before 8");
     opened(0x84, 3);
     refused(am9517_write(chip, 16, 0x0c), AM9517_NUMBER, "write: 2 before 3");
     refused(am9517_write(chip, 14, 0), AM9517_IN_SERVICE, "write: 3 before 4");
@@ -389,7 +389,7 @@ static void orders(void)
     refused(alone(am9517_read(chip, 15)), AM9517_IN_SERVICE, "read: 3 before 4");
     refused(alone(am9517_grant(chip)), AM9517_IN_SERVICE, "grant: 3 before 6");
     refused(round_over(65535, 4097), AM9517_NUMBER, "round: 2 before 7");
-    refused(round_over(65535, 1), AM9517_MEMORY, "round: 7 before 3");
+    refused(round_over(65535, 1), AM9517_MEMORY_LENGTH, "round: 7 before 3");
     refused(round_over(MEMORY, 0), AM9517_IN_SERVICE, "round of none: 3");
 }
 
@@ -399,11 +399,11 @@ static void rounds(void)
     begin();
     refused(round_over(MEMORY, 4097), AM9517_NUMBER, "k 4,097");
     refused(round_over(65535, 0xffffffffu), AM9517_NUMBER, "k 2^32 - 1, before the memory");
-    refused(round_over(65535, 1), AM9517_MEMORY, "65,535");
-    refused(round_over(65537, 0), AM9517_MEMORY, "65,537");
-    refused(round_alone(am9517_round(chip, NULL, 0, NULL, 0, NULL, 0, 1)), AM9517_MEMORY, "no memory");
-    expect(am9517_round(chip, at.memory, MEMORY, NULL, 0, NULL, 0, 0).reason == AM9517_DONE, "k 0", 0);
-    expect(am9517_round(chip, at.memory, MEMORY, NULL, 0, NULL, 0, AM9517_ROUND_MOST).reason == AM9517_QUIET, "quiet", 0);
+    refused(round_over(65535, 1), AM9517_MEMORY_LENGTH, "65,535");
+    refused(round_over(65537, 0), AM9517_MEMORY_LENGTH, "65,537");
+    refused(round_alone(am9517_round(chip, NULL, 0, NULL, 0, NULL, 0, 1)), AM9517_MEMORY_LENGTH, "no memory");
+    expect(am9517_round(chip, at.memory, MEMORY, NULL, 0, NULL, 0, 0).reason == AM9517_REASON_DONE, "k 0", 0);
+    expect(am9517_round(chip, at.memory, MEMORY, NULL, 0, NULL, 0, AM9517_ROUND_MOST).reason == AM9517_REASON_QUIET, "quiet", 0);
     all_stay("no service", 0);
     am9517_write(chip, 11, 0x45);  /* channel 1: single, device to memory, count 9 */
     am9517_write(chip, 3, 9);
@@ -411,12 +411,12 @@ static void rounds(void)
     am9517_write(chip, 15, 0x0d);
     am9517_pins(chip, 2);
     r = am9517_round(chip, at.memory, MEMORY, device, 4, NULL, 0, 3);
-    expect(r.refusal == AM9517_OK && r.reason == AM9517_DONE && r.services[1] == 3, "three services", r.services[1]);
+    expect(r.refusal == AM9517_OK && r.reason == AM9517_REASON_DONE && r.services[1] == 3, "three services", r.services[1]);
     expect(r.transfers == 3 && r.states == 12 && r.used == 3 && r.written == 0, "three transfers", (unsigned long)r.states);
     r = am9517_round(chip, at.memory, MEMORY, device + r.used, 1, NULL, 0, 3);
-    expect(r.reason == AM9517_SHORT && r.services[1] == 2 && r.used == 1 && chip->in_service == 1, "short", r.services[1]);
+    expect(r.reason == AM9517_REASON_SHORT && r.services[1] == 2 && r.used == 1 && chip->in_service == 1, "short", r.services[1]);
     expect(memcmp(at.memory, device, 4) == 0 && at.memory[4] == 0x55, "bytes of the round", at.memory[3]);
-    expect(run_all(1, 0).reason == AM9517_ENDED, "the open service goes on by run", 0);
+    expect(run_all(1, 0).reason == AM9517_REASON_ENDED, "the open service goes on by run", 0);
     expect(guards(), "guards of rounds", 0);
 }
 
@@ -465,37 +465,37 @@ static void bad_sheets(void)
     begin();
     refused(am9517_load(chip, NULL, 0), AM9517_SHEET_SHORT, "load of NULL");
     refused(am9517_load(chip, at.sheet, 55), AM9517_SHEET_SHORT, "load of 55 bytes");
-    refused(am9517_load(chip, at.sheet, sizeof at.sheet), AM9517_END_MARK, "all wrong: the end mark comes first");
-    damaged(55, 0x4c, 0, AM9517_END_MARK, "end mark");
-    damaged(54, 0x45, 0, AM9517_END_MARK, "end mark, first byte");
-    damaged(48, 2, 0, AM9517_FORM, "form 2");
-    damaged(49, 1, 0, AM9517_FORM, "form 0101h");
-    damaged(50, 0x2f, 0, AM9517_DISTANCE, "distance 47");
-    damaged(51, 1, 0, AM9517_DISTANCE, "distance 304");
-    damaged(0, 1, 0, AM9517_SUM, "sum");
-    damaged(53, 1, 0, AM9517_SUM, "sum, high byte");
-    damaged(8, 1, 1, AM9517_RANGE, "mode with channel bits");
-    damaged(17, 0x0c, 1, AM9517_RANGE, "mode of type 11");
-    damaged(37, 16, 1, AM9517_RANGE, "five TC bits");
-    damaged(41, 2, 1, AM9517_RANGE, "flip-flop 2");
-    damaged(43, 4, 1, AM9517_RANGE, "lowest channel 4");
-    damaged(44, 2, 1, AM9517_RANGE, "in service 2");
-    damaged(45, 1, 1, AM9517_RANGE, "serving while idle");
-    damaged(47, 1, 1, AM9517_RANGE, "latch without its mark");
+    refused(am9517_load(chip, at.sheet, sizeof at.sheet), AM9517_SHEET_END_MARK, "all wrong: the end mark comes first");
+    damaged(55, 0x4c, 0, AM9517_SHEET_END_MARK, "end mark");
+    damaged(54, 0x45, 0, AM9517_SHEET_END_MARK, "end mark, first byte");
+    damaged(48, 2, 0, AM9517_SHEET_FORM, "form 2");
+    damaged(49, 1, 0, AM9517_SHEET_FORM, "form 0101h");
+    damaged(50, 0x2f, 0, AM9517_SHEET_DISTANCE, "distance 47");
+    damaged(51, 1, 0, AM9517_SHEET_DISTANCE, "distance 304");
+    damaged(0, 1, 0, AM9517_SHEET_SUM, "sum");
+    damaged(53, 1, 0, AM9517_SHEET_SUM, "sum, high byte");
+    damaged(8, 1, 1, AM9517_SHEET_RANGE, "mode with channel bits");
+    damaged(17, 0x0c, 1, AM9517_SHEET_RANGE, "mode of type 11");
+    damaged(37, 16, 1, AM9517_SHEET_RANGE, "five TC bits");
+    damaged(41, 2, 1, AM9517_SHEET_RANGE, "flip-flop 2");
+    damaged(43, 4, 1, AM9517_SHEET_RANGE, "lowest channel 4");
+    damaged(44, 2, 1, AM9517_SHEET_RANGE, "in service 2");
+    damaged(45, 1, 1, AM9517_SHEET_RANGE, "serving while idle");
+    damaged(47, 1, 1, AM9517_SHEET_RANGE, "latch without its mark");
 }
 
 /* A service is cut by its limit, stored, and gone on with by another chip. */
 static void loaded(void)
 {
     opened(0x84, 3);
-    expect(run_all(2, 0).reason == AM9517_LIMIT, "cut", 0);
+    expect(run_all(2, 0).reason == AM9517_REASON_LIMIT, "cut", 0);
     expect(am9517_save(chip, at.sheet, sizeof at.sheet) == AM9517_OK, "stored in service", 0);
     const am9517_chip kept = *chip;
     memset(chip, 0xff, sizeof *chip);
     expect(am9517_check(chip) == AM9517_STATE_RANGE, "a broken chip", 0);
     expect(am9517_load(chip, at.sheet, sizeof at.sheet) == AM9517_OK && same_chip(chip, &kept), "loaded over it", 0);
     const am9517_run_told r = am9517_run(chip, at.memory, MEMORY, device + 2, 2, NULL, 0, 65536, 0);
-    expect(r.reason == AM9517_ENDED && r.states == 6 && memcmp(at.memory + 0x1234, device, 4) == 0, "gone on with", r.reason);
+    expect(r.reason == AM9517_REASON_ENDED && r.states == 6 && memcmp(at.memory + 0x1234, device, 4) == 0, "gone on with", r.reason);
     expect(guards(), "guards of sheets", 0);
 }
 

@@ -90,7 +90,7 @@ static void runs()
     static am9517::Memory memory;
     const std::vector<std::uint8_t> device{0x11, 0x22, 0x33, 0x44};
     Chip chip = opened(0x84);
-    expect(chip.run({}, device, {}).refusal() == Refusal::memory, "no memory");
+    expect(chip.run({}, device, {}).refusal() == Refusal::memory_length, "no memory");
     const auto first = chip.run(memory, ConstBytes(device.data(), 3), {}, 2);
     expect(first.ok() && first->reason == Reason::limit && first->used == 2 && first->states == 7, "two bytes");
     const am9517::Sheet sheet = chip.sheet().value();
@@ -126,8 +126,8 @@ static void sheets()
     expect(chip.save(record).ok() && record[3] == 0xdd && record[4] == 0 && record[59] == 0x4d, "at the end of a record");
     expect(chip.load(record).ok(), "and back");
     record[59] = 0;
-    expect(chip.load(record).refusal() == Refusal::end_mark && chip == Chip(), "end mark");
-    expect(am9517::version() == AM9517_VERSION && am9517::number_of(Refusal::range) == 14 && am9517::number_of(Reason::quiet) == 7, "numbers");
+    expect(chip.load(record).refusal() == Refusal::sheet_end_mark && chip == Chip(), "end mark");
+    expect(am9517::version() == AM9517_VERSION && am9517::number_of(Refusal::sheet_range) == 14 && am9517::number_of(Reason::quiet) == 7, "numbers");
 }
 
 int main()
