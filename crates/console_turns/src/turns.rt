@@ -11,7 +11,6 @@ use console_files::put_file;
 use console_session::Reached;
 use console_session::gather;
 use console_text::line::said;
-use console_text::page::byte;
 use console_text::page::text;
 use libc::STDERR_FILENO;
 use libc::STDOUT_FILENO;
