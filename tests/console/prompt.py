@@ -52,6 +52,25 @@ def talk(lines, last, path=''):
     return shown.replace(b'\r\n', b'\n').decode('utf-8', 'replace'), status
 
 
+def typed(lines):
+    """What is answered to typed lines where the answers go into a pipe: there is no prompt to wait for."""
+    child, terminal = pty.fork()
+    if child == 0:
+        os.execv('/bin/sh', ['sh', '-c', '"$0" 2> /dev/null | cat', RACK])
+    shown = b''
+    os.write(terminal, b''.join(lines) + b'\x04')
+    while True:
+        try:
+            more = os.read(terminal, 65536)
+        except OSError:
+            more = b''
+        if not more:
+            break
+        shown += more
+    os.waitpid(child, 0)
+    return shown.replace(b'\r\n', b'\n').decode('utf-8', 'replace')
+
+
 failed = 0
 
 
@@ -75,6 +94,8 @@ shown, status = talk([b'feed ' + b'00' * 3000 + b'\n', b'show\n', b'fresh' + b' 
 check('a line that the terminal cuts is refused', '\nrack: a terminal cuts a line at 4095 characters: give longer ones in a file\nerror\n> ' in shown, shown)
 check('and nothing of it is queued', 'queue 0 bytes' in shown, shown)
 check('one that fits is done', shown.endswith('\nok\n> exit\n'), shown)
+shown = typed([b'feed ' + b'00' * 3000 + b'\n', b'queue\n'])
+check('a line that the terminal cuts is refused where the answers go elsewhere, too', shown.endswith('error\nbytes -\n'), shown)
 shown, status = talk([b'fresh\n'], b'\x04')
 check('Ctrl-D leaves on a line of its own, with status 0', status == 0 and shown.endswith('> \n'), shown)
 shown, status = talk([b'fresh\n'], b'\x03')
@@ -85,5 +106,5 @@ with tempfile.TemporaryDirectory() as folder:
     os.chmod(folder + '/rlwrap', 0o755)
     shown, status = talk([b'fresh\n'], b'quit\n', folder + ':')
     check('rlwrap is used, and the status told through it', status == 0 and shown.startswith('by rlwrap\n'), shown)
-print('prompt: 11 things tried in a terminal, %d failed' % failed)
+print('prompt: 12 things tried in a terminal, %d failed' % failed)
 sys.exit(1 if failed else 0)

@@ -81,6 +81,13 @@ fn limit(out: &mut [u8], at: usize, held: Held, name: &[u8], line: &[u8]) -> usi
     if same(name, b"out") {
         return room_limit(out, at, held.size);
     }
+    if same(name, b"dump") {
+        return text(
+            out,
+            at,
+            b"N is 16384 at most, and all lies within the memory, which has 65537 bytes\n",
+        );
+    }
     if same(name, b"state") {
         return text(out, at, b"a state has 48 bytes, which are 96 digits\n");
     }

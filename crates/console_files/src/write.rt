@@ -13,15 +13,14 @@ fn fill(fd: i32, bytes: &[u8]) -> bool {
 }
 
 fn fill_and_close(fd: i32, bytes: &[u8]) -> bool {
-    if !fill(fd, bytes) {
-        return false;
-    }
-    libc::close(fd) == 0
+    let is_full = fill(fd, bytes);
+    let is_closed = libc::close(fd) == 0;
+    is_full & is_closed
 }
 
-// Makes the file under its name for the time being, and gives it its name.
+// Makes the file under its name for the time being, which nobody else's file may have, and gives it its name.
 fn replace(number: u64, part: &[u8], name: &[u8], bytes: &[u8]) -> bool {
-    let fd = os::open_overwrite(part);
+    let fd = os::create(part);
     if fd < 0 {
         complain(number, part);
         return false;

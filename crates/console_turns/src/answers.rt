@@ -9,12 +9,13 @@ ghost use lib.ListN.{length};
 // No more of a line than this is shown before and behind the place where it differs.
 const SHOWN: usize = 200;
 
-// The file of the answers expected, what of the part read of it is still to come, and the number of its line.
+// The file of the answers expected, what of the part read of it is still to come, the number of its line, and whether it can't be read.
 pub struct Answers {
     pub fd: i32,
     pub from: usize,
     pub filled: usize,
     pub number: u64,
+    pub is_failed: bool,
 }
 
 // How many bytes of an answer are as expected, and whether all are.
@@ -30,18 +31,22 @@ fn ready(answers: Answers, part: &mut [u8; 65536]) -> Answers {
         return answers;
     }
     let got = libc::read(answers.fd, part);
+    let mut next = answers;
     if got < 0 {
         os::fail(b"rack: the answers expected");
+        next.is_failed = true;
     }
-    let mut next = answers;
     next.from = 0;
     next.filled = io::count(got, part);
     next
 }
 
-// The next byte; 256 at the file's end.
+// The next byte; 256 at the file's end, 257 where it can't be read.
 fn next_byte(answers: Answers, part: &[u8; 65536]) -> u16 {
     let from = answers.from;
+    if answers.is_failed {
+        return 257;
+    }
     if answers.filled <= from {
         return 256;
     }

@@ -41,9 +41,10 @@ const WAITING: usize = 160000;
 // A terminal gives no longer line: what is beyond it is lost.
 const TERMINAL: usize = 4095;
 
-// Where the script is read, and how its answers are told.
+// Where the script is read, whether it is typed at a terminal, and how its answers are told.
 pub struct Way {
     pub fd: i32,
+    pub is_typed: bool,
     pub is_asking: bool,
     pub is_explaining: bool,
     pub is_echoing: bool,
@@ -93,6 +94,7 @@ pub fn first_turn(answers: i32) -> Turn {
         from: 0,
         filled: 0,
         number: 1,
+        is_failed: false,
     };
     Turn {
         console,
@@ -320,7 +322,7 @@ fn answer(
     notes: &mut Notes,
 ) -> Done {
     let start = echo(way.is_echoing, line, length, out, before);
-    let is_cut = way.is_asking & (TERMINAL <= length);
+    let is_cut = way.is_typed & (TERMINAL <= length);
     let planned = plan_of(is_cut, number, line, length, spare, notes);
     let task = planned.task;
     if leaves(task) | fails(task) {

@@ -71,6 +71,7 @@ fn is_terminal() -> bool {
 fn way_of(options: Options, fd: i32, is_asking: bool) -> Way {
     Way {
         fd,
+        is_typed: libc::isatty(fd) == 1,
         is_asking,
         is_explaining: options.is_explaining | is_asking,
         is_echoing: options.is_echoing & !is_asking,
