@@ -167,10 +167,12 @@ static double time_of(const struct work *w, u64 times)
     return seconds() - began;
 }
 
-/* Turns enough for about a millisecond. */
+/* Turns enough for about a millisecond. The first ones don't tell it: pages are got and an emulator translates in them. */
 static u64 turns_of(const struct work *w)
 {
     u64 times = 1;
+    time_of(w, 2);
+    time_of(w, 2);
     while (time_of(w, times) < 0.0005) times *= 2;
     return 2 * times;
 }
