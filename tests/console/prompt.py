@@ -1,8 +1,9 @@
 #!/usr/bin/env python3
-"""usage: tests/console/prompt.py
+"""usage: tests/console/prompt.py [RACK]
 
-Talks to ./rack in a terminal of its own, as a person does: answers and explanations, a line that the terminal
-cuts, leaving by quit, exit, Ctrl-D and Ctrl-C; and rlwrap, a stand-in for it, where one is installed.
+Talks to ./rack, or to the console that RACK starts, in a terminal of its own, as a person does: answers and
+explanations, a line that the terminal cuts, leaving by quit, exit, Ctrl-D and Ctrl-C; and rlwrap, a stand-in for it,
+where one is installed.
 
 needs   python3, and what ./rack needs
 writes  nothing beside what ./rack writes
@@ -15,7 +16,7 @@ import sys
 import tempfile
 import time
 
-RACK = os.path.join(os.path.dirname(os.path.abspath(__file__)), '..', '..', 'rack')
+OWN = os.path.join(os.path.dirname(os.path.abspath(__file__)), '..', '..', 'rack')
 PROMPT = b'> '
 LIMIT = 60.0  # seconds for one answer, at an emulator on a busy machine
 
@@ -81,9 +82,12 @@ def check(name, is_so, shown):
         print('prompt: %s; the terminal showed: %s' % (name, shown[-600:]))
 
 
-if len(sys.argv) > 1:
-    print(__doc__.strip() if sys.argv[1] in ('-h', '--help') else 'prompt: %s is unknown (--help tells more)' % sys.argv[1])
-    sys.exit(0 if sys.argv[1] in ('-h', '--help') else 2)
+if sys.argv[1:] in (['-h'], ['--help']):
+    print(__doc__.strip())
+    sys.exit(0)
+RACK = os.path.abspath((sys.argv + [OWN])[1])
+if len(sys.argv) > 2 or not os.access(RACK, os.X_OK):
+    sys.exit('prompt: one program at most, and that may be started: %s (--help tells more)' % ' '.join(sys.argv[1:]))
 shown, status = talk([b'grant\n', b'poke 0 abc\n', b'poke 0 85h\n'], b'quit\n')
 check('quit leaves with status 0', status == 0, shown)
 check('a refusal is explained', 'refused 6\nline 1: refused by 6: grant with no entitled channel\n' in shown, shown)
