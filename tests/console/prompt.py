@@ -12,6 +12,7 @@ takes   seconds
 import os
 import pty
 import select
+import signal
 import sys
 import tempfile
 import time
@@ -21,10 +22,16 @@ PROMPT = b'> '
 LIMIT = 60.0  # seconds for one answer, at an emulator on a busy machine
 
 
+def as_a_person():
+    """Ctrl-C is heard: a shell that runs this in the background lets its children ignore it."""
+    signal.signal(signal.SIGINT, signal.SIG_DFL)
+
+
 def talk(lines, last, path=''):
     """What the terminal shows of a talk, each line typed at a prompt, `last` at the last one; and the exit status."""
     child, terminal = pty.fork()
     if child == 0:
+        as_a_person()
         os.environ['PATH'] = path + os.environ['PATH']
         os.execv(RACK, [RACK])
     shown = b''
@@ -57,6 +64,7 @@ def typed(lines):
     """What is answered to typed lines where the answers go into a pipe: there is no prompt to wait for."""
     child, terminal = pty.fork()
     if child == 0:
+        as_a_person()
         os.execv('/bin/sh', ['sh', '-c', '"$0" 2> /dev/null | cat', RACK])
     shown = b''
     os.write(terminal, b''.join(lines) + b'\x04')
