@@ -76,7 +76,7 @@ abbrev pub standsIn : Console → Arrays → Bool
 standsIn c a = stands c (length (a .memory)) (length (a .queue)) (length (a .room)) (length (a .spare))
 
 -- What was asked of a console with these arrays and this page is done: what is left is what it gives, for some text of `show`
--- and `help`, of which no more is promised; and what lay in the arrays lies in them still.
+-- and `help`, of which no more is promised; and its positions lie in the arrays as before.
 pub record Done (gives : Bool → Held → List ℕ → Said) (c : Console) (was : Arrays) (p : Page) (r : Executed) (now : Arrays) (out : List ℕ) : Type 0 where
   pub shown : List ℕ
   pub so : left r (now .memory) (now .queue) (now .room) out ≡ leaving p (gives (standsIn c was) (holds c (was .memory) (was .queue) (was .room)) shown)

@@ -21,7 +21,7 @@ isBlank b = eqb b 32 || eqb b 9
 abbrev pub isLetter : ℕ → Bool
 isLetter b = not (isBlank b)
 
--- not the sign of a comment, not a newline
+-- not the sign of a comment
 abbrev pub isSaid : ℕ → Bool
 isSaid b = not (eqb b 35)
 
