@@ -205,6 +205,7 @@ static enum reason copy_service(am9517_chip *c, u8 *memory, u64 limit, u64 eop_a
         c->temporary = memory[from->address];
         memory[to->address] = c->temporary;
         if (!bit(c->command, 1)) from->address = stepped(from->address, from->mode);
+        if (from->count-- == 0 && bit(from->mode, 4)) from->address = from->base_address, from->count = from->base_count;
         to->address = stepped(to->address, to->mode);
         made++;
         over = counted_down(c, 1, 1, made == eop_at);

@@ -1,5 +1,6 @@
 //! Deliberate faults, to show that the comparer finds them. At most one is on, in this thread only,
-//! and none unless [`choose`] is called. The rules ask [`on`] at the one place a fault changes.
+//! and none unless [`choose`] is called. The rules ask [`on`] or [`chosen`] at the one place a fault
+//! changes.
 
 use std::cell::Cell;
 
@@ -44,18 +45,38 @@ pub enum Fault {
     PairCompressed,
     PairLatches,
     PairDrops,
-    PairRestoresZero,
     HoldAlways,
     StatusWhenEnabled,
     ShortFirst,
     MemoryBeforeNumber,
     QueueRestarts,
+    PairCountStays,
+    HoldStopsCount,
+    ZeroCountStops,
+    ZeroNeverRestores,
+    ZeroAlwaysRestores,
+    ZeroRestoresByOne,
+    ZeroRestoresEarly,
+    ZeroRestoresOnce,
+    EndHidesRestore,
+    ZeroRestoresAddressOnly,
+    ZeroRestoresCountOnly,
+    HoldKeepsAddress,
+    RestoredAddressSteps,
+    RestoredCountSteps,
+    ZeroTakesOneBack,
+    ZeroSetsTc,
+    ZeroMasks,
+    ZeroClearsRequest,
+    ZeroEndsPair,
+    TcRestoresZero,
+    EopRestoresZero,
 }
 
 use Fault::*;
 
 /// Each fault with its name and what it does.
-pub const ALL: [(Fault, &str, &str); 45] = [
+pub const ALL: [(Fault, &str, &str); 65] = [
     (StopsEarly, "stops-early", "TC when the count reads 0, one byte early"),
     (S1OnCarryOnly, "s1-on-carry-only", "S1 only on a carry, none in a new service"),
     (AnyReadClearsTc, "any-read-clears-tc", "TC bits cleared by any register read"),
@@ -95,21 +116,46 @@ pub const ALL: [(Fault, &str, &str); 45] = [
     (PairCompressed, "pair-compressed", "compressed memory-to-memory takes 6 states"),
     (PairLatches, "pair-latches", "memory-to-memory uses the latch"),
     (PairDrops, "pair-drops", "memory-to-memory in demand mode needs its line"),
-    (PairRestoresZero, "pair-restores-zero", "memory-to-memory restores channel 0 too"),
     (HoldAlways, "hold-always", "address hold stops channel 0 outside memory-to-memory too"),
     (StatusWhenEnabled, "status-when-enabled", "status shows no request while disabled"),
     (ShortFirst, "short-first", "short is looked at before the limit"),
     (MemoryBeforeNumber, "memory-before-number", "a round is refused by 7 before 2"),
     (QueueRestarts, "queue-restarts", "a round hands all device bytes to each run"),
+    (PairCountStays, "pair-count-stays", "memory-to-memory leaves channel 0's count"),
+    (HoldStopsCount, "hold-stops-count", "address hold stops channel 0's count too"),
+    (ZeroCountStops, "zero-count-stops", "channel 0's count in memory-to-memory stays at FFFFh"),
+    (ZeroNeverRestores, "zero-never-restores", "channel 0's count passing 0 restores nothing"),
+    (ZeroAlwaysRestores, "zero-always-restores", "channel 0 restores without autoinitialize"),
+    (ZeroRestoresByOne, "zero-restores-by-one", "channel 0 restores by channel 1's mode bit 4"),
+    (ZeroRestoresEarly, "zero-restores-early", "channel 0 restores as its count reaches 0"),
+    (ZeroRestoresOnce, "zero-restores-once", "channel 0 restores only once a run"),
+    (EndHidesRestore, "end-hides-restore", "a service's last transfer doesn't restore channel 0"),
+    (ZeroRestoresAddressOnly, "zero-restores-address", "channel 0 restores its address only"),
+    (ZeroRestoresCountOnly, "zero-restores-count", "channel 0 restores its count only"),
+    (HoldKeepsAddress, "hold-keeps-address", "under hold channel 0's address isn't restored"),
+    (RestoredAddressSteps, "restored-address-steps", "channel 0's restored address steps"),
+    (RestoredCountSteps, "restored-count-steps", "channel 0's restored count steps"),
+    (ZeroTakesOneBack, "zero-takes-one-back", "channel 0's restore takes channel 1's address back"),
+    (ZeroSetsTc, "zero-sets-tc", "channel 0's count passing 0 sets TC bit 0"),
+    (ZeroMasks, "zero-masks", "channel 0's count passing 0 masks it without autoinitialize"),
+    (ZeroClearsRequest, "zero-clears-request", "channel 0's count passing 0 clears request bit 0"),
+    (ZeroEndsPair, "zero-ends-pair", "channel 0's count passing 0 ends memory-to-memory"),
+    (TcRestoresZero, "tc-restores-zero", "channel 1's TC restores channel 0 too"),
+    (EopRestoresZero, "eop-restores-zero", "EOP in memory-to-memory restores channel 0 too"),
 ];
 
 thread_local! {
     static CHOSEN: Cell<Option<Fault>> = const { Cell::new(None) };
 }
 
+/// The fault that is on, if one is.
+pub fn chosen() -> Option<Fault> {
+    CHOSEN.get()
+}
+
 /// Is this fault on?
 pub fn on(fault: Fault) -> bool {
-    CHOSEN.get() == Some(fault)
+    chosen() == Some(fault)
 }
 
 /// Turn one fault on in this thread, or all off.

@@ -1,4 +1,5 @@
-//! A second, independent model of one Am9517A, made from document 01 and the data sheets alone.
+//! A second, independent model of one Am9517A, made from documents 01 and 02 (request A1) and the
+//! data sheets alone.
 //!
 //! The rules are in modules by subject: [`state`], [`registers`], [`serving`], [`run`], [`round`]
 //! and [`sheet`]. [`protocol`] is the line protocol over them. [`faults`] is a set of deliberate

@@ -1,5 +1,5 @@
 //! A run of one service (document 01, "A run of one service", "Memory-to-memory" and "Working
-//! states"), one transfer at a time.
+//! states"; document 02, A1), one transfer at a time.
 
 use crate::faults::{self, Fault};
 use crate::state::{Channel, Controller, Mode, Refusal, Type, MEMORY_LENGTH};
@@ -45,6 +45,8 @@ struct Service<'a> {
     tally: Tally,
     /// Only for the fault that copies overlapping places at once.
     copied: Option<Vec<u8>>,
+    /// Only for the fault that restores channel 0 once a run.
+    zero_restored: bool,
 }
 
 impl Controller {
@@ -65,7 +67,8 @@ impl Controller {
         }
         let copied = faults::on(Fault::OverlapCopied).then(|| memory.to_vec());
         let tally = Tally::default();
-        let mut service = Service { controller: self, memory, input, room, tally, copied };
+        let mut service =
+            Service { controller: self, memory, input, room, tally, copied, zero_restored: false };
         let stop = service.run(u64::from(limit), u64::from(eop));
         let mut next = service.controller;
         if faults::on(Fault::RotationAtEnd) {
@@ -275,15 +278,20 @@ impl Service<'_> {
 
     /// "the channel either restores current from base (autoinitialize) or sets its mask bit."
     fn restore_or_mask(&mut self, number: usize) {
-        let channel = &mut self.controller.channels[number];
-        if channel.autoinitializes() {
-            if !faults::on(Fault::RestoreForgetsAddress) {
-                channel.current_address = channel.base_address;
-            }
-            channel.current_count = channel.base_count;
+        if self.controller.channels[number].autoinitializes() {
+            self.restore(number);
         } else {
             self.controller.mask |= 1 << number;
         }
+    }
+
+    /// Current address and count from base.
+    fn restore(&mut self, number: usize) {
+        let channel = &mut self.controller.channels[number];
+        if !faults::on(Fault::RestoreForgetsAddress) {
+            channel.current_address = channel.base_address;
+        }
+        channel.current_count = channel.base_count;
     }
 
     /// "One transfer: byte at channel 0's address to the temporary byte, then to channel 1's
@@ -296,21 +304,103 @@ impl Service<'_> {
         if self.really_moves() {
             self.memory[to] = self.controller.temporary;
         }
-        let held = self.controller.command & 2 != 0 && !faults::on(Fault::HoldIgnored);
-        if !held {
+        if !self.is_held() {
             self.step_address(0);
         }
         self.step_address(1);
         // "Channel 1's count steps; its TC sets TC bit 1."
         let tc = self.step_count(1);
+        let ends = tc || meets_eop;
+        self.count_channel_zero(ends);
         self.tally.transfers += 1;
         self.count_pair_states(to);
         self.set_tc_bit(1, tc, meets_eop);
         let single = faults::on(Fault::SingleEndsPair) && self.is_single(0);
-        if tc || meets_eop {
-            self.end_memory_to_memory();
+        if ends {
+            self.end_memory_to_memory(tc, meets_eop);
         } else if single {
             self.controller = self.controller.with_service_ended();
+        }
+    }
+
+    /// "channel 0 stays under command bit 1"
+    fn is_held(&self) -> bool {
+        self.controller.command & 2 != 0 && !faults::on(Fault::HoldIgnored)
+    }
+
+    /// Document 02, A1: "Channel 0's count steps down with every transfer, also under address hold.
+    /// When it goes from 0 to FFFFh it neither ends the service nor sets TC bit 0, but restores
+    /// channel 0's current registers if that channel has autoinitialize. On the same transfer the
+    /// address steps first and the restore wins." The address has stepped before this is called.
+    fn count_channel_zero(&mut self, ends: bool) {
+        if self.zero_count_stays() {
+            return;
+        }
+        let passes = self.step_count(0);
+        if self.zero_is_restored(passes, ends) {
+            self.restore_zero();
+        }
+        if passes {
+            self.harm_at_passing();
+        }
+    }
+
+    /// Never so, but for three of the faults.
+    fn zero_count_stays(&self) -> bool {
+        match faults::chosen() {
+            Some(Fault::PairCountStays) => true,
+            Some(Fault::HoldStopsCount) => self.is_held(),
+            Some(Fault::ZeroCountStops) => self.controller.channels[0].current_count == 0xFFFF,
+            _ => false,
+        }
+    }
+
+    /// "if that channel has autoinitialize"; without it the count goes on from FFFFh. Whether this
+    /// transfer also ends the service makes no difference.
+    fn zero_is_restored(&self, passes: bool, ends: bool) -> bool {
+        let [zero, one, ..] = self.controller.channels;
+        let restored = passes && zero.autoinitializes();
+        match faults::chosen() {
+            Some(Fault::ZeroNeverRestores) => false,
+            Some(Fault::ZeroAlwaysRestores) => passes,
+            Some(Fault::ZeroRestoresByOne) => passes && one.autoinitializes(),
+            Some(Fault::ZeroRestoresEarly) => zero.current_count == 0 && zero.autoinitializes(),
+            Some(Fault::ZeroRestoresOnce) => restored && !self.zero_restored,
+            Some(Fault::EndHidesRestore) => restored && !ends,
+            _ => restored,
+        }
+    }
+
+    /// Address and count, under hold too: from then on the base address is held.
+    fn restore_zero(&mut self) {
+        let before = self.controller.channels[0];
+        let held = self.is_held();
+        self.restore(0);
+        self.zero_restored = true;
+        let [zero, one, ..] = &mut self.controller.channels;
+        match faults::chosen() {
+            Some(Fault::ZeroRestoresAddressOnly) => zero.current_count = before.current_count,
+            Some(Fault::ZeroRestoresCountOnly) => zero.current_address = before.current_address,
+            Some(Fault::HoldKeepsAddress) if held => zero.current_address = before.current_address,
+            Some(Fault::RestoredAddressSteps) if !held => self.step_address(0),
+            Some(Fault::RestoredCountSteps) => {
+                zero.current_count = zero.current_count.wrapping_sub(1)
+            }
+            Some(Fault::ZeroTakesOneBack) => one.current_address = one.base_address,
+            _ => {}
+        }
+    }
+
+    /// Nothing, but for four of the faults: channel 0's count passing 0 is no TC.
+    fn harm_at_passing(&mut self) {
+        match faults::chosen() {
+            Some(Fault::ZeroSetsTc) => self.controller.tc |= 1,
+            Some(Fault::ZeroMasks) if !self.controller.channels[0].autoinitializes() => {
+                self.controller.mask |= 1
+            }
+            Some(Fault::ZeroClearsRequest) => self.controller.request &= !1,
+            Some(Fault::ZeroEndsPair) => self.controller = self.controller.with_service_ended(),
+            _ => {}
         }
     }
 
@@ -331,13 +421,17 @@ impl Service<'_> {
     }
 
     /// "At TC or EOP the service ends, request bits 0 and 1 are cleared, and channel 1 restores or
-    /// is masked by its own mode bit 4. Channel 0's count and mask bit aren't touched."
-    fn end_memory_to_memory(&mut self) {
+    /// is masked by its own mode bit 4. Channel 0's count and mask bit aren't touched." Document
+    /// 02, A1, overrules the last sentence as to the count, which steps with every transfer. At the
+    /// end, channel 0 is still left alone: neither TC nor EOP restores or masks it.
+    fn end_memory_to_memory(&mut self, tc: bool, meets_eop: bool) {
         self.controller = self.controller.with_service_ended();
         self.controller.request &= if faults::on(Fault::KeepsRequestOne) { !1 } else { !3 };
         self.restore_or_mask(1);
-        if faults::on(Fault::PairRestoresZero) && self.controller.channels[0].autoinitializes() {
-            self.restore_or_mask(0);
+        let by_tc = tc && faults::on(Fault::TcRestoresZero);
+        let by_eop = meets_eop && faults::on(Fault::EopRestoresZero);
+        if (by_tc || by_eop) && self.controller.channels[0].autoinitializes() {
+            self.restore(0);
         }
         if faults::on(Fault::MasksChannelZero) {
             self.controller.mask |= 1;

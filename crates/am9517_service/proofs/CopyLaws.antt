@@ -25,18 +25,18 @@ use Rattle.am9517_service.specs.Counts.{counts, plus}
 use Rattle.am9517_service.specs.World.{World, world, startOf, withController, stop, memoryToMemory}
 use Rattle.am9517_service.specs.Stops.{stops}
 use Rattle.am9517_service.specs.Ends.{counting, reachesTc, finished, afterTcOrEop, single}
-use Rattle.am9517_service.specs.Transfer.{withCurrent, stepped}
+use Rattle.am9517_service.specs.Transfer.{stepped}
 use Rattle.am9517_service.specs.Copy.{sourceNext, copied}
 use Rattle.am9517_service.specs.Run.{transferred, runOf}
 use Rattle.am9517_service.specs.ClosedLegs.{addressAfter, currentAfter}
 use Rattle.am9517_service.specs.ClosedSpans.{untilEnd}
 use Rattle.am9517_service.specs.ClosedCopies.{sourceAfter, carriedBy, routeIn, copiedOn, copiedAll, reachedCopying}
 use Rattle.words.proofs.ChoiceLaws.{when-both, when-each, when-hit, never, not-false}
-use Rattle.words.proofs.StepLaws.{steps-next, steps-none}
 use Rattle.words.proofs.SpreadLaws.{carried-more}
 use Rattle.am9517_service.proofs.SpanLaws.{Until, until}
 use Rattle.am9517_service.proofs.RunLaws.{Free, Gives, run-stop, transferred-copied}
 use Rattle.am9517_service.proofs.RunWayLaws.{Way, way-on, way-end, neither-left, neither-right}
+use Rattle.am9517_service.proofs.CopySourceLaws.{source-none, source-more}
 use Rattle.am9517_service.proofs.TransferLaws.{inside-of, count-left, stepped-current-after, stepped-first, address-after-none, current-after-count}
 
 -- two places set again
@@ -57,17 +57,6 @@ copiedWith w from to =
 copied-by : (w : World) (from to : Channel) → channel (w .controller) 0 ≡ from → channel (w .controller) 1 ≡ to → copied w ≡ copiedWith w from to
 unfolding copied
 copied-by w from to e g = ap (λ (x : Channel). copiedWith w x (channel (w .controller) 1)) e ∙ ap (copiedWith w from) g
-
--- the source, one transfer on
-source-next : (hold : Bool) (from : Channel) (n : ℕ) → sourceNext hold (sourceAfter hold from n) ≡ sourceAfter hold from (n + 1)
-unfolding addressAfter when
-source-next true from n = refl
-source-next false from n = ap (λ (a : ℕ). withCurrent from a (from .count)) (steps-next 16 (decrement (from .mode)) (from .address) n)
-
-source-none : (hold : Bool) (from : Channel) → from .address < 65536 → sourceAfter hold from 0 ≡ from
-unfolding addressAfter when
-source-none true from below = refl
-source-none false from below = ap (λ (a : ℕ). withCurrent from a (from .count)) (steps-none 16 (decrement (from .mode)) (from .address) below)
 
 module _ (c : Controller) (m r : List ℕ) where
   abbrev from : Channel
@@ -117,7 +106,7 @@ module _ (c : Controller) (m r : List ℕ) where
       let states : (j + 1) * 8 + 8 ≡ (j + 1 + 1) * 8 = omega arith in
       let chs : set (set (set (set (c .channels) 0 (sent n)) 1 (currentAfter to n)) 0 (sourceNext (addressHold (c .command)) (sent n))) 1 (stepped (currentAfter to n)) ≡ both (n + 1) =
       two-again (c .channels) (sent n) (currentAfter to n) (sourceNext (addressHold (c .command)) (sent n)) (stepped (currentAfter to n))
-      ∙ ap (λ (x : Channel). set (set (c .channels) 0 x) 1 (stepped (currentAfter to n))) (source-next (addressHold (c .command)) from n)
+      ∙ ap (λ (x : Channel). set (set (c .channels) 0 x) 1 (stepped (currentAfter to n))) (source-more (addressHold (c .command)) from n)
       ∙ ap (λ (y : Channel). set (set (c .channels) 0 (sent (n + 1))) 1 y) (stepped-current-after to n) in
       copied-by (copiedAll c m r n) (sent n) (currentAfter to n) (sent-there n byte nz) (got-there n byte nz)
       ∙ ap (λ (l : List Channel). shape l (moving n) (set (bytes n) (addressAfter to n) (moving n)) (n + 1) (n * 8 + 8)) chs
@@ -129,13 +118,13 @@ module _ (c : Controller) (m r : List ℕ) where
   unfolding carriedBy carried
   bytes-none = refl
 
-  first-copy : from .address < 65536 → to .address < 65536 → copied (startOf c m r) ≡ copiedAll c m r 1
+  first-copy : to .address < 65536 → copied (startOf c m r) ≡ copiedAll c m r 1
   unfolding copiedAll
-  first-copy below goal =
-      let start : sourceNext (addressHold (c .command)) from ≡ sent 1 = ap (sourceNext (addressHold (c .command))) (sym (source-none (addressHold (c .command)) from below)) ∙ source-next (addressHold (c .command)) from 0 in
+  first-copy goal =
+      let start : sourceNext (addressHold (c .command)) from ≡ sent 1 = ap (sourceNext (addressHold (c .command))) (sym (source-none (addressHold (c .command)) from)) ∙ source-more (addressHold (c .command)) from 0 in
       let chs : set (set (c .channels) 0 (sourceNext (addressHold (c .command)) from)) 1 (stepped to) ≡ both 1 =
       ap (λ (x : Channel). set (set (c .channels) 0 x) 1 (stepped to)) start ∙ ap (λ (y : Channel). set (set (c .channels) 0 (sent 1)) 1 y) (stepped-first to) in
-      let byte : getD m (from .address) 0 ≡ moving 0 = ap (λ (x : Channel). getD m (x .address) 0) (sym (source-none (addressHold (c .command)) from below)) ∙ ap (λ (l : List ℕ). getD l (sent 0 .address) 0) (sym bytes-none) in
+      let byte : getD m (from .address) 0 ≡ moving 0 = ap (λ (x : Channel). getD m (x .address) 0) (sym (source-none (addressHold (c .command)) from)) ∙ ap (λ (l : List ℕ). getD l (sent 0 .address) 0) (sym bytes-none) in
       let place : to .address ≡ addressAfter to 0 = sym (address-after-none to goal) in
       copied-by (startOf c m r) from to refl refl
       ∙ ap (λ (l : List Channel). shape l (getD m (from .address) 0) (set m (to .address) (getD m (from .address) 0)) 1 8) chs
@@ -163,7 +152,7 @@ module _ (c : Controller) (m r : List ℕ) where
   unfolding reachedCopying copiedAll
   transfers-after n = when-each (λ (w : World). w .counts .transfers ≡ n) (eqb n 0) (λ e. sym (eqb-true _ _ e)) (λ e. refl)
 
-  module _ (ic : memoryToMemory c ≡ true) (below : from .address < 65536) (goal : to .address < 65536) (small : to .count < 65536) where
+  module _ (ic : memoryToMemory c ≡ true) (goal : to .address < 65536) (small : to .count < 65536) where
     there : (n : ℕ) → (to .count ≡ 0 → ⊥) → n ≤ to .count → channel (copiedAll c m r n .controller) 1 .count ≡ to .count - n
     unfolding copiedAll
     there n nz h = ap (λ (x : Channel). x .count) (got-there n (moving (n - 1)) nz) ∙ current-after-count to n ∙ count-left (to .count) n h small
@@ -176,7 +165,7 @@ module _ (c : Controller) (m r : List ℕ) where
     reached-more n h d = transferred-copied 0 d (reachedCopying c m r n) (memoryToMemory-after n ∙ ic) ∙ go n h
       where
         go : (n : ℕ) → n ≤ to .count → copied (reachedCopying c m r n) ≡ reachedCopying c m r (n + 1)
-        go zero h = rw (copying-none, copying-some 1 (omega arith)) (first-copy below goal)
+        go zero h = rw (copying-none, copying-some 1 (omega arith)) (first-copy goal)
         go (suc j) h =
             let e = add-one j in
             rw (copying-some (suc j) (omega arith), copying-some (suc j + 1) (omega arith), ← e) (one-more j (λ z. omega arith))

@@ -1,7 +1,7 @@
 -- A leg of memory-to-memory is what the rules say of its run: the one law's sibling.
 use Prim.Native.Nat.{ℕ, suc, _+_, _-_, _*_, _≤_, _<_}
 use mathlib.Core.Path.{_≡_, refl, sym, ap, _∙_}
-use mathlib.Core.Bool.{Bool, true, false, _&&_, _||_}
+use mathlib.Core.Bool.{Bool, true, false, _||_}
 use mathlib.Core.List.{List}
 use native.Mathlib.Omega.{arith}
 use lib.Dec.{eqb, leb}
@@ -41,11 +41,9 @@ use Rattle.am9517_service.proofs.RunWayLaws.{neither-left, neither-righ
 use Rattle.am9517_service.proofs.TransferLaws.{current-after-mode}
 use Rattle.am9517_service.proofs.LegLaws.{put-again}
 use Rattle.am9517_service.proofs.AnswerLaws.{none-plus}
+use Rattle.am9517.proofs.RangeLaws.{and-right}
+use Rattle.am9517_service.proofs.CopySourceLaws.{source-mode}
 use Rattle.am9517_service.proofs.CopyLaws.{copying-none, copying-some, copy-ends, copy-halts}
-
-and-right : (a b : Bool) → a && b ≡ true → b ≡ true
-and-right true b h = h
-and-right false b h = never (sym h)
 
 pub serving-0 : (c : Controller) → memoryToMemory c ≡ true → c .serving ≡ 0
 unfolding memoryToMemory
@@ -93,7 +91,7 @@ module _ (c : Controller) (ic : memoryToMemory c ≡ true) (byte n eop : ℕ) wh
   over l mode k = put (put (put (put (withBits (make l (field (put c Temporary byte))) (bitsAfter 1 mode cleared tc met)) InService 0) Serving k) LatchFull 0) Latch 0
 
   to-mode : getD (set sent 1 (currentAfter to n)) 1 blank .mode ≡ to .mode
-  to-mode = modes-kept sent 1 1 (currentAfter to n) (current-after-mode to n ∙ sym (modes-kept (c .channels) 0 1 (sourceAfter hold from n) refl)) ∙ modes-kept (c .channels) 0 1 (sourceAfter hold from n) refl
+  to-mode = modes-kept sent 1 1 (currentAfter to n) (current-after-mode to n ∙ sym (modes-kept (c .channels) 0 1 (sourceAfter hold from n) (source-mode hold from n))) ∙ modes-kept (c .channels) 0 1 (sourceAfter hold from n) (source-mode hold from n)
 
   ended-copy : tc || met ≡ true → finished (put (copiedOn c byte n) Request (withBit (c .request) 0 false)) 1 tc met ≡ afterCopy c leg byte false
   unfolding finished copyLegOf legOf when
@@ -108,7 +106,7 @@ module _ (c : Controller) (ic : memoryToMemory c ≡ true) (byte n eop : ℕ) wh
   open-copy h = simp h
 
 -- The run of an open memory-to-memory service.
-module _ (c : Controller) (m d r : List ℕ) (limit eop : ℕ) (ic : memoryToMemory c ≡ true) (source-below : channel c 0 .address < 65536) (target-below : channel c 1 .address < 65536) (small : channel c 1 .count < 65536) where
+module _ (c : Controller) (m d r : List ℕ) (limit eop : ℕ) (ic : memoryToMemory c ≡ true) (target-below : channel c 1 .address < 65536) (small : channel c 1 .count < 65536) where
   abbrev count : ℕ
   count = channel c 1 .count
 
@@ -142,7 +140,7 @@ module _ (c : Controller) (m d r : List ℕ) (limit eop : ℕ) (ic : memoryToMem
 
       ends : most ≤ limit → ran ≡ stop (led most false) Ended
       ends h =
-          copy-ends c m r ic source-below target-below small limit eop d most refl h
+          copy-ends c m r ic target-below small limit eop d most refl h
           ∙ ap (λ (w : World). stop (withController w (finished (put (w .controller) Request (withBit (w .controller .request) 0 false)) 1 (eqb most (count + 1)) (eqb most eop))) Ended) (copying-some c m r most (u .some))
           ∙ ap (λ (x : Controller). stop (withController (copiedAll c m r most) x) Ended) (ended-copy c ic (lastByte (routeIn c) m most) most eop met)
 
@@ -158,7 +156,7 @@ module _ (c : Controller) (m d r : List ℕ) (limit eop : ℕ) (ic : memoryToMem
       }
     where
       halts : limit < most → ran ≡ stop (reachedCopying c m r limit) Limit
-      halts h = copy-halts c m r ic source-below target-below small limit eop d h
+      halts h = copy-halts c m r ic target-below small limit eop d h
 
       quiet : limit < most → 0 < limit → eqb limit (count + 1) || eqb limit eop ≡ false
       quiet h z =

@@ -28,6 +28,7 @@ use Rattle.words.proofs.ChoiceLaws.{when-both, when-each, when-le, never}
 use Rattle.am9517.proofs.RangeLaws.{Ranges}
 use Rattle.am9517_service.proofs.RunWayLaws.{neither-left, neither-right}
 use Rattle.am9517.proofs.KeepLaws.{kept-same, kept-open, kept-ended, modes-kept}
+use Rattle.am9517_service.proofs.CopySourceLaws.{source-next-mode}
 
 -- the device is not short, where that matters
 abbrev pub Supplied : World → List ℕ → Type 0
@@ -175,7 +176,7 @@ copied-sound l w p =
     let c = w .controller in
     let r = p .ranges in
     record {
-      ranges = kept-open c r _ (record { mode = λ k. modes-kept (set (c .channels) 0 (sourceNext (addressHold (c .command)) (channel c 0))) 1 k _ (sym (modes-kept (c .channels) 0 1 (sourceNext (addressHold (c .command)) (channel c 0)) refl)) ∙ modes-kept (c .channels) 0 k (sourceNext (addressHold (c .command)) (channel c 0)) refl; pins = refl; flipFlop = refl; lowest = refl; tc = r .fields .tc; request = r .fields .request; mask = r .fields .mask }) (p .busy) (r .fields .latchFull) (r .latch) (r .fields .serving);
+      ranges = kept-open c r _ (record { mode = λ k. modes-kept (set (c .channels) 0 (sourceNext (addressHold (c .command)) (channel c 0))) 1 k _ (sym (modes-kept (c .channels) 0 1 (sourceNext (addressHold (c .command)) (channel c 0)) (source-next-mode (addressHold (c .command)) (channel c 0)))) ∙ modes-kept (c .channels) 0 k (sourceNext (addressHold (c .command)) (channel c 0)) (source-next-mode (addressHold (c .command)) (channel c 0)); pins = refl; flipFlop = refl; lowest = refl; tc = r .fields .tc; request = r .fields .request; mask = r .fields .mask }) (p .busy) (r .fields .latchFull) (r .latch) (r .fields .serving);
       busy = p .busy;
       lowest = p .lowest;
     }

@@ -8,9 +8,11 @@ pub mod TransferLaws
 pub mod RunWayLaws
 pub mod LegRunLaws
 pub mod LegLaws
+pub mod CopySourceLaws
 pub mod CopyLaws
 pub mod CopyLegLaws
 pub mod CopyPieceLaws
+pub mod CopyRestoreLaws
 pub mod KeepLaws
 pub mod GrantLaws
 pub mod RoundLaws

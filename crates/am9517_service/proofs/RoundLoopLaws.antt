@@ -53,6 +53,7 @@ use Rattle.am9517.proofs.ServingLaws.{lines-same, blocks-same, picked-most}
 use Rattle.am9517_service.proofs.TransferLaws.{next-mul, states-most}
 use Rattle.am9517_service.proofs.RoundLaws.{ended-is, tail-length, round-refused, round-accepted, Rolling, rolling-start, rolling-done, rolling-quiet, rolling-on, rolling-stops}
 use Rattle.am9517_service.proofs.RoundTurnLaws.{resting, AtRest, at-rest, settles, next-is, counts-same, alone-plus, led-stocked, led-few, turn-stood, still-open, stays-open, leg-ended, leg-halted, turn-alone, turn-copied}
+use Rattle.am9517_service.proofs.CopySourceLaws.{source-mode}
 
 abbrev pub rounded : Controller → RoundAnswer → List ℕ → Counts → Rounded
 rounded c a services n = record { controller = c; answer = a; services = services; totals = n }
@@ -562,7 +563,7 @@ module _ (k : ℕ) (d : List ℕ) (size : ℕ) (o : Close) (f : Facts) (s : Cont
     modes-copied : (y : ℕ) → channel (left-by u byte q) y .mode ≡ channel s y .mode
     unfolding copyLegOf legOf currentAfter
     modes-copied y =
-        let from : u .source .mode ≡ ch .mode = ap (λ (x : Copied). x .source .mode) (sym copy-is) in
+        let from : u .source .mode ≡ ch .mode = ap (λ (x : Copied). x .source .mode) (sym copy-is) ∙ source-mode _ ch _ in
         let to : u .target .mode ≡ channel s 1 .mode =
         ap (λ (x : Copied). x .target .mode) (sym copy-is) ∙ when-both (λ (x : Channel). x .mode ≡ channel s 1 .mode) (eqb (channel s 1 .count + 1) (channel s 1 .count + 1) || eqb (channel s 1 .count + 1) 0) refl refl in
         modes-kept (set (s .channels) q (u .source)) 1 y (u .target) (to ∙ sym (modes-kept (s .channels) q 1 (u .source) from)) ∙ modes-kept (s .channels) q y (u .source) from

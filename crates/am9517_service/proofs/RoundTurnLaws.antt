@@ -332,9 +332,6 @@ module _ (s : Controller) (i j : ℕ) (rest : AtRest s) (m d r services : List �
       unfolding granted
       target-there = refl
 
-      source-below' : channel c 0 .address < 65536
-      source-below' = rw source-there below
-
       target-below' : channel c 1 .address < 65536
       target-below' = rw target-there target-below
 
@@ -345,8 +342,8 @@ module _ (s : Controller) (i j : ℕ) (rest : AtRest s) (m d r services : List �
       unfolding copySpan untilEnd granted when
       all-span = let enough : target .count + 1 ≤ 65536 = omega arith in simp (le-leb _ _ enough)
 
-      copied : CopyLed c m bytes space 65536 0 ic source-below' target-below' target-small' (span all Ended)
-      copied = rw (sym all-span) (copy-run c m bytes space 65536 0 ic source-below' target-below' target-small')
+      copied : CopyLed c m bytes space 65536 0 ic target-below' target-small' (span all Ended)
+      copied = rw (sym all-span) (copy-run c m bytes space 65536 0 ic target-below' target-small')
 
       pub turn-copied : runNext w d ≡ stop (world (resting (withBits (withChannel (withChannel (put s Temporary byte) 0 (copy .source)) 1 (copy .target)) (copy .bits)) j) (carriedBy (routeOf hold ch target) m all) space (counts all 0 0 (all * copyPace))) Ended
       unfolding granted

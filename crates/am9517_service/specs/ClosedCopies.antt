@@ -1,15 +1,15 @@
 -- A leg of memory-to-memory, in closed form. What a run is, Run.antt says.
-use Prim.Native.Nat.{ℕ, _+_, _-_, _*_}
-use mathlib.Core.Bool.{Bool, false, _||_}
+use Prim.Native.Nat.{ℕ, zero, suc, _+_, _-_, _*_}
+use mathlib.Core.Bool.{Bool, true, false, _||_}
 use mathlib.Core.List.{List}
-use lib.Dec.{eqb}
+use lib.Dec.{eqb, ltb}
 use lib.ListN.{getD}
 use Rattle.words.specs.Choice.{when}
 use Rattle.words.specs.Bits.{withBit}
 use Rattle.words.specs.Steps.{steps}
 use Rattle.words.specs.Spans.{least, reachOf, carried}
 use Rattle.am9517.specs.Fields.{channel, withChannel, put, InService, LatchFull, Latch, Temporary}
-use Rattle.am9517.specs.Modes.{addressHold, decrement}
+use Rattle.am9517.specs.Modes.{addressHold, autoinitialize, decrement}
 use Rattle.am9517.specs.declared.Channel.{Channel}
 use Rattle.am9517.specs.declared.Controller.{Controller}
 use Rattle.am9517_service.specs.declared.legs.Bits.{Bits}
@@ -20,15 +20,31 @@ use Rattle.am9517_service.specs.World.{World, world, startOf}
 use Rattle.am9517_service.specs.Transfer.{withCurrent}
 use Rattle.am9517_service.specs.Ends.{withBits}
 use Rattle.am9517_service.specs.States.{copyPace}
+use Rattle.am9517_service.specs.Copy.{sourceNext}
 use Rattle.am9517_service.specs.ClosedLegs.{addressAfter, currentAfter, legOf}
 
 -- channel 0 after n transfers
-abbrev pub sourceAfter : Bool → Channel → ℕ → Channel
-sourceAfter hold ch n = withCurrent ch (when hold (ch .address) (addressAfter ch n)) (ch .count)
+unfoldable pub sourceAfter : Bool → Channel → ℕ → Channel
+sourceAfter hold ch zero = ch
+sourceAfter hold ch (suc n) = sourceNext hold (sourceAfter hold ch n)
 
--- the bytes of n transfers along a route
+-- after n of which none restores it, and as it is restored
+abbrev pub sourceOn : Bool → Channel → ℕ → Channel
+sourceOn hold ch n = withCurrent ch (when hold (ch .address) (addressAfter ch n)) (steps 16 true (ch .count) n)
+
+abbrev pub restored : Channel → Channel
+restored ch = withCurrent ch (ch .«base_address») (ch .«base_count»)
+
+-- one of n transfers before the last restores it
+unfoldable pub restores : Channel → ℕ → Bool
+restores ch n = when (autoinitialize (ch .mode)) (ltb (ch .count + 1) n) false
+
+-- the bytes of n transfers along a route, and along one on which channel 0 isn't restored
 unfoldable pub carriedBy : Route → List ℕ → ℕ → List ℕ
 carriedBy ρ m n = carried (steps 16 (ρ .«to_down») (ρ .to)) (λ (j : ℕ). sourceAfter (ρ .hold) (ρ .source) j .address) m n
+
+unfoldable pub carriedAlong : Route → List ℕ → ℕ → List ℕ
+carriedAlong ρ m n = carried (steps 16 (ρ .«to_down») (ρ .to)) (λ (j : ℕ). sourceOn (ρ .hold) (ρ .source) j .address) m n
 
 -- of n bytes along a route, how many are moved before an address turns over: the target's, and the source's unless it is held
 unfoldable pub straightOf : Route → ℕ → ℕ
@@ -36,10 +52,19 @@ straightOf ρ n =
     let target = least n (reachOf 65536 (ρ .«to_down») (ρ .to)) in
     when (ρ .hold) target (least target (reachOf 65536 (decrement (ρ .source .mode)) (ρ .source .address)))
 
--- the route n bytes on
+-- the route n bytes on, where channel 0 isn't restored
 abbrev pub farther : Route → ℕ → Route
 farther ρ n =
-    record { hold = ρ .hold; source = sourceAfter (ρ .hold) (ρ .source) n; to = steps 16 (ρ .«to_down») (ρ .to) n; «to_down» = ρ .«to_down» }
+    record { hold = ρ .hold; source = sourceOn (ρ .hold) (ρ .source) n; to = steps 16 (ρ .«to_down») (ρ .to) n; «to_down» = ρ .«to_down» }
+
+-- the route at its place, from another source
+abbrev pub begun : Route → Channel → Route
+begun ρ source = record { hold = ρ .hold; source = source; to = ρ .to; «to_down» = ρ .«to_down» }
+
+-- the route n bytes on, where channel 0 was just restored; an area of one byte is a held one
+abbrev pub beginningAgain : Route → ℕ → Route
+beginningAgain ρ n =
+    record { hold = ρ .hold || eqb (ρ .source .«base_count») 0; source = restored (ρ .source); to = steps 16 (ρ .«to_down») (ρ .to) n; «to_down» = ρ .«to_down» }
 
 -- the route from one channel to another
 abbrev pub routeOf : Bool → Channel → Channel → Route

@@ -45,7 +45,7 @@ bitsAfter n mode b tc eop =
       mask = when (autoinitialize mode) (b .mask) (withBit (b .mask) n true);
     }
 
--- and of its record: "restores current from base (autoinitialize)"
+-- and of its record: "restores current from base (autoinitialize)". In memory-to-memory channel 0's count passing 0 does so, too (Copy)
 abbrev pub channelAfter : Channel → Channel
 channelAfter ch =
     let again = autoinitialize (ch .mode) in
@@ -58,7 +58,8 @@ finished c n tc eop =
     ended (withBits (withChannel c n (channelAfter ch)) (bitsAfter n (ch .mode) (bitsOf c) tc eop))
 
 -- in memory-to-memory "At TC or EOP the service ends, request bits 0 and 1 are cleared, and channel 1 restores or is masked by its
--- own mode bit 4. Channel 0's count and mask bit aren't touched": it is channel 1 that finishes, and only its mask bit is set
+-- own mode bit 4. Channel 0's count and mask bit aren't touched": it is channel 1 that finishes, and only its mask bit is set. As to the
+-- count document 02's A1 overrules it (Copy `sourceNext`): the end of the service touches neither
 unfoldable pub afterTcOrEop : Controller → Bool → Bool → Controller
 afterTcOrEop c tc eop =
     when (memoryToMemory c) (finished (put c Request (withBit (c .request) 0 false)) 1 tc eop) (finished c (c .serving) tc eop)

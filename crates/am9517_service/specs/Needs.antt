@@ -1,5 +1,5 @@
 -- What the private functions of src/ ask of their callers.
-use Prim.Native.Nat.{ℕ, _≤_}
+use Prim.Native.Nat.{ℕ, _+_, _≤_, _<_}
 use mathlib.Core.Path.{_≡_}
 use mathlib.Core.Bool.{true, false}
 use mathlib.Core.List.{List}
@@ -9,6 +9,7 @@ use Rattle.am9517.specs.Modes.{decrement}
 use Rattle.am9517.specs.declared.Channel.{Channel}
 use Rattle.am9517_service.specs.declared.copies.Route.{Route}
 use Rattle.am9517_service.specs.Transfer.{writes, reads}
+use Rattle.am9517_service.specs.ClosedCopies.{sourceOn}
 
 -- bytes and room for n transfers
 pub record Stocked (ch : Channel) (m d r : List ℕ) (n : ℕ) : Type 0 where
@@ -21,3 +22,8 @@ pub record Stocked (ch : Channel) (m d r : List ℕ) (n : ℕ) : Type 0 where
 pub record Straight (ρ : Route) (n : ℕ) : Type 0 where
   pub target : Within (ρ .«to_down») (ρ .to) n 65536
   pub source : ρ .hold ≡ false → Within (decrement (ρ .source .mode)) (ρ .source .address) n 65536
+
+-- the addresses that n bytes come from, where the source of a route begins again after each `area` of them
+pub record Again (ρ : Route) (area n : ℕ) (from : ℕ → ℕ) : Type 0 where
+  pub within : (j : ℕ) → j < area → from j ≡ sourceOn (ρ .hold) (ρ .source) j .address
+  pub again : (j : ℕ) → area + j < n → from (area + j) ≡ from j

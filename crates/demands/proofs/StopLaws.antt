@@ -21,7 +21,7 @@ use Rattle.am9517_service.specs.declared.Reason.the-variants.{Ended, Dropped, C
 use Rattle.am9517_service.specs.World.{World, memoryToMemory, servingChannel, Stop, stop}
 use Rattle.am9517_service.specs.Stops.{dropped, short, stops}
 use Rattle.am9517_service.specs.Transfer.{stepped, moved}
-use Rattle.am9517_service.specs.Copy.{sourceNext, copied}
+use Rattle.am9517_service.specs.Copy.{sourceStepped, sourceNext, copied}
 use Rattle.am9517_service.specs.Ends.{counting, reachesTc, channelAfter, finished, afterTcOrEop, single, ends}
 use Rattle.am9517_service.specs.Run.{transferred, runOf}
 use Rattle.demands.specs.Rounds.{Words}
@@ -31,6 +31,7 @@ use Rattle.am9517.proofs.KeepLaws.{modes-kept}
 use Rattle.am9517.proofs.ServingLaws.{picked-asked}
 use Rattle.am9517_service.proofs.KeepLaws.{run-ind}
 use Rattle.am9517_service.proofs.RunWayLaws.{neither-left}
+use Rattle.am9517_service.proofs.CopySourceLaws.{source-next-mode}
 
 -- What holds of the reasons that a run may have holds of its reason; it goes on only where TC was not met.
 module _ (P : ℕ → World → Type 0) (Q : Reason → Type 0) (eop : ℕ) (d : List ℕ) (by-end : Q Ended) (by-cascade : Q Cascade) (by-short : Q Short)
@@ -102,7 +103,7 @@ dropped-copied w =
     let c = w .controller in
     let source = sourceNext (addressHold (c .command)) (channel c 0) in
     dropped-same c _ refl refl refl
-    (λ n. modes-kept (set (c .channels) 0 source) 1 n _ (sym (modes-kept (c .channels) 0 1 source refl)) ∙ modes-kept (c .channels) 0 n source refl)
+    (λ n. modes-kept (set (c .channels) 0 source) 1 n _ (sym (modes-kept (c .channels) 0 1 source (source-next-mode (addressHold (c .command)) (channel c 0)))) ∙ modes-kept (c .channels) 0 n source (source-next-mode (addressHold (c .command)) (channel c 0)))
 
 dropped-after : (w : World) (d : List ℕ) → dropped (transferred w d .controller) ≡ dropped (w .controller)
 unfolding transferred
@@ -239,12 +240,17 @@ stepped-fits ch h = (step-below 16 true (ch .count), h .1)
 after-fits : (ch : Channel) → Fits ch → Fits (channelAfter ch)
 after-fits ch h = (when-both (λ (x : ℕ). x < 65536) (autoinitialize (ch .mode)) (h .1) (h .0), h .1)
 
+source-fits : (hold : Bool) (ch : Channel) → Fits ch → Fits (sourceNext hold ch)
+source-fits hold ch h =
+    let down : Fits (sourceStepped hold ch) = (step-below 16 true (ch .count), h .1) in
+    when-both Fits (eqb (ch .count) 0) (after-fits (sourceStepped hold ch) down) down
+
 transferred-words : (w : World) (d : List ℕ) → Words (w .controller) → Words (transferred w d .controller)
 unfolding transferred moved copied
 transferred-words w d h =
     let c = w .controller in
     when-both (λ (x : World). Words (x .controller)) (memoryToMemory c)
-    (λ n. set-fits (set (c .channels) 0 _) 1 n _ (stepped-fits (channel c 1) (h 1)) (set-fits (c .channels) 0 n _ (h 0) (h n)))
+    (λ n. set-fits (set (c .channels) 0 _) 1 n _ (stepped-fits (channel c 1) (h 1)) (set-fits (c .channels) 0 n _ (source-fits (addressHold (c .command)) (channel c 0) (h 0)) (h n)))
     (λ n. set-fits (c .channels) (c .serving) n _ (stepped-fits (servingChannel c) (h (c .serving))) (h n))
 
 finished-words : (c : Controller) (i : ℕ) (tc eop : Bool) → Words c → Words (finished c i tc eop)

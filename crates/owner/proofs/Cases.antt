@@ -42,7 +42,7 @@ use Rattle.demands.specs.Lists.{All, none, also}
 use Rattle.demands.specs.Operations.{Grant, Run, Round, SheetWriting, SheetReading, next, afterAll, said}
 use Rattle.demands.specs.Grants.{Granted, told, grants, channels}
 use Rattle.demands.specs.Fairness.{Contends}
-use Rattle.owner.specs.Cases.{Holds, services, setUp, idleWith, ch, proved, whole, limits, WorkedCases, Tight, p5, p6}
+use Rattle.owner.specs.Cases.{Holds, services, setUp, idleWith, ch, proved, requested, whole, limits, WorkedCases, Tight, p5, p6}
 use Rattle.words.proofs.ChoiceLaws.{when-hit, never}
 use Rattle.am9517_service.proofs.AnswerLaws.{run-accepted}
 use Rattle.am9517_service.proofs.LegRunLaws.{run-ends}
@@ -190,6 +190,15 @@ proved-cases =
     (also (λ m h. ran-whole _ m _ _ refl refl h ∙ refl)
     (also (λ m h. refl) none)))))))))
 
+requested-cases : All Holds requested
+unfolding
+    when _and_ first withBit stride step modeValid modesValid fieldsValid serviceValid valid active requestCounts entitled setOf pickedFrom picked granted refusal outcome memoryToMemory
+    stops pace copied counting finished afterTcOrEop single transferred runOf stopped
+requested-cases =
+    also (λ m h. ran-whole _ m _ _ refl refl h ∙ refl)
+    (also (λ m h. ran-whole _ m _ _ refl refl h ∙ refl)
+    (also (λ m h. ran-whole _ m _ _ refl refl h ∙ refl) none))
+
 limit-cases : All Holds limits
 unfolding
     when _and_ first modeValid modesValid fieldsValid serviceValid valid active requestCounts entitled setOf pickedFrom picked granted refusal outcome answerOf total bodyOf stateOf
@@ -214,7 +223,7 @@ all-both none h = h
 all-both (also p g) h = also p (all-both g h)
 
 pub worked-cases : WorkedCases
-worked-cases = all-both proved-cases (all-both whole-cases limit-cases)
+worked-cases = all-both proved-cases (all-both requested-cases (all-both whole-cases limit-cases))
 
 pub tight : Tight
 unfolding active requestCounts entitled

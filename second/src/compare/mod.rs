@@ -4,6 +4,7 @@ pub mod comparison;
 pub mod damage;
 pub mod ending;
 pub mod forms;
+pub mod pairs;
 pub mod program;
 pub mod random;
 pub mod report;

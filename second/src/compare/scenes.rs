@@ -22,7 +22,7 @@ pub fn write_script(seed: u64, number: u64, odd: bool) -> Script {
 
 impl Writer {
     fn write_body(&mut self) {
-        self.budget = [1_500, 15_000, 210_000][self.random.weighted(&[80, 14, 6])];
+        self.budget = [2_500, 15_000, 210_000][self.random.weighted(&[80, 14, 6])];
         let length = self.random.between(6, 60) as usize;
         if self.random.chance(70) {
             self.prepare_memory_and_device();
@@ -35,7 +35,7 @@ impl Writer {
         }
     }
 
-    fn heavy(&self) -> bool {
+    pub fn heavy(&self) -> bool {
         self.budget >= HEAVY
     }
 
@@ -86,29 +86,31 @@ impl Writer {
     fn waits_in_cascade(&self) -> bool {
         let now = self.controller();
         let number = usize::from(now.serving & 3);
-        let both = number == 0 && now.command & 1 != 0;
-        now.channels[number].kind() == Mode::Cascade && !both
+        now.channels[number].kind() == Mode::Cascade && !self.serves_a_pair()
     }
 
     fn step_idle(&mut self) {
-        match self.random.weighted(&[22, 15, 16, 3, 6, 15, 8, 10, 6, 10, 2, 2, 4, 3, 5, 2, 6, 1]) {
+        let scenes = [22, 13, 18, 16];
+        let others = [3, 6, 15, 8, 10, 6, 10, 2, 2, 4, 3, 5, 2, 6, 1];
+        match self.random.weighted(&[&scenes[..], &others[..]].concat()) {
             0 => self.scene_of_one_service(),
             1 => self.scene_of_memory_to_memory(),
-            2 => self.scene_of_a_round(),
-            3 => self.program_channel(),
-            4 => self.pins(),
-            5 => self.write_some_register(),
-            6 => self.read_some_register(),
-            7 => self.say(&[Name("grant")]),
-            8 => self.round(),
-            9 => self.set_state(),
-            10 => self.set_broken_state(),
-            11 => self.sheet(),
-            12 => self.load(),
-            13 => self.device(),
-            14 => self.look_or_poke(),
-            15 => self.lend_memory(),
-            16 => self.any_operation(),
+            2 => self.scene_of_a_pattern(),
+            3 => self.scene_of_a_round(),
+            4 => self.program_channel(),
+            5 => self.pins(),
+            6 => self.write_some_register(),
+            7 => self.read_some_register(),
+            8 => self.say(&[Name("grant")]),
+            9 => self.round(),
+            10 => self.set_state(),
+            11 => self.set_broken_state(),
+            12 => self.sheet(),
+            13 => self.load(),
+            14 => self.device(),
+            15 => self.look_or_poke(),
+            16 => self.lend_memory(),
+            17 => self.any_operation(),
             _ => self.read_everything(),
         }
     }
@@ -146,7 +148,7 @@ impl Writer {
         values::address(&mut self.random, &now)
     }
 
-    fn write(&mut self, register: u64, byte: u8) {
+    pub fn write(&mut self, register: u64, byte: u8) {
         self.say(&[Name("write"), Number(register), Number(u64::from(byte))]);
     }
 
@@ -185,6 +187,10 @@ impl Writer {
     fn write_command(&mut self) {
         let command = values::command(&mut self.random);
         self.write(8, command);
+        // A disabled chip still shows who requests.
+        if command & 4 != 0 && self.random.chance(60) {
+            self.say(&[Name("read"), Number(8)]);
+        }
     }
 
     fn read_some_register(&mut self) {
@@ -198,7 +204,7 @@ impl Writer {
         self.say(&[Name("read"), Number(register)]);
     }
 
-    fn pins(&mut self) {
+    pub fn pins(&mut self) {
         let now = self.controller();
         let levels = match self.random.below(12) {
             0 => self.random.pick(&[16, 17, 0x80, 0x100, 0x1_0000, 0xFFFF_FFFF]),
@@ -213,7 +219,7 @@ impl Writer {
     }
 
     /// A channel anew: address, count, mode; base and current equal.
-    fn plan_channel(&mut self, plan: &mut Controller, number: usize, mode: u8) {
+    pub fn plan_channel(&mut self, plan: &mut Controller, number: usize, mode: u8) {
         let heavy = self.heavy();
         let address = values::address(&mut self.random, plan);
         let count = values::count(&mut self.random, heavy);
@@ -249,7 +255,7 @@ impl Writer {
     }
 
     /// Bring the controller to the plan, by one `state` or by the registers a driver would use.
-    fn reach(&mut self, plan: Controller) {
+    pub fn reach(&mut self, plan: Controller) {
         if self.random.chance(60) {
             return self.say_state(plan);
         }
@@ -321,37 +327,6 @@ impl Writer {
         }
     }
 
-    fn scene_of_memory_to_memory(&mut self) {
-        let mut plan = self.controller();
-        plan.command = values::command(&mut self.random) & !4 | 1;
-        self.plan_pair(&mut plan);
-        plan.request |= self.random.pick(&[1, 1, 3]);
-        if self.random.chance(30) {
-            plan.pins = values::pins_for(self.random.pick(&[1, 3, 15]), plan.command);
-            plan.mask &= !1;
-        }
-        self.reach(plan);
-        self.poke_near(plan.channels[0].current_address);
-        self.say(&[Name("grant")]);
-        self.run();
-    }
-
-    /// Channels 0 and 1, their places often over each other.
-    fn plan_pair(&mut self, plan: &mut Controller) {
-        let kind =
-            if self.random.chance(70) { 0x80 } else { values::mode(&mut self.random) & 0xC0 };
-        let first = values::mode(&mut self.random) & 0x34 | kind;
-        let second = values::mode(&mut self.random);
-        self.plan_channel(plan, 1, second);
-        self.plan_channel(plan, 0, first);
-        if self.random.chance(60) {
-            let near = self.random.pick(&[0, 1, 2, 3, 0xFFFD, 0xFFFE, 0xFFFF]);
-            let address = plan.channels[1].current_address.wrapping_add(near);
-            plan.channels[0].base_address = address;
-            plan.channels[0].current_address = address;
-        }
-    }
-
     fn scene_of_a_round(&mut self) {
         let mut plan = self.controller();
         if self.random.chance(60) {
@@ -388,7 +363,7 @@ impl Writer {
         self.say(&[Name("read"), Number(0xD)]);
     }
 
-    fn round(&mut self) {
+    pub fn round(&mut self) {
         let mut k = match self.random.below(12) {
             0 => 0,
             1 => 1,
@@ -440,10 +415,12 @@ impl Writer {
         }
     }
 
-    fn run(&mut self) {
+    pub fn run(&mut self) {
         let (most, device) = self.transfers_to_tc();
-        let mut limit = self.limit(most);
-        let eop = self.eop(most, limit);
+        let aim = self.aim(most);
+        let mut limit = self.limit(aim);
+        let aim = self.aim(most);
+        let eop = self.eop(aim, limit);
         let eop_end = if eop == 0 { u64::MAX } else { eop };
         if most.min(limit).min(eop_end).min(device) > self.budget {
             let little = self.budget.min(50);
@@ -452,11 +429,19 @@ impl Writer {
         self.say(&[Name("run"), Number(limit), Number(eop)]);
     }
 
+    /// Limits and EOP fall near TC; in memory-to-memory, where channel 0's count passes 0 as well.
+    fn aim(&mut self, most: u64) -> u64 {
+        if self.serves_a_pair() && self.random.chance(40) {
+            return self.transfers_to_a_passing();
+        }
+        most
+    }
+
     /// How far the serving channel is from TC, and how far the device goes with it.
     fn transfers_to_tc(&self) -> (u64, u64) {
         let now = self.controller();
         let number = usize::from(now.serving & 3);
-        if number == 0 && now.command & 1 != 0 {
+        if self.serves_a_pair() {
             return (u64::from(now.channels[1].current_count) + 1, u64::MAX);
         }
         let channel = now.channels[number];
@@ -515,7 +500,7 @@ impl Writer {
         }
     }
 
-    fn say_state(&mut self, state: Controller) {
+    pub fn say_state(&mut self, state: Controller) {
         self.say(&[Name("state"), Hex(state.body().to_vec())]);
     }
 
@@ -561,7 +546,7 @@ impl Writer {
     }
 
     /// Random bytes around an address, over the end of the array too.
-    fn poke_near(&mut self, address: u16) {
+    pub fn poke_near(&mut self, address: u16) {
         let before = self.random.below(20) as usize;
         let start = usize::from(address).saturating_sub(before);
         let length = self.random.between(1, 40) as usize;
@@ -643,7 +628,8 @@ impl Writer {
 pub const FIRST_LONG: u64 = 1 << 40;
 pub const LONG_SCRIPTS: u64 = 2;
 
-/// Rounds of 4,096 services of 65,536 transfers: the greatest totals there are.
+/// Rounds of 4,096 services of 65,536 transfers: the greatest totals there are. In memory-to-memory
+/// it is a short pattern that is laid again and again.
 fn write_long_script(number: u64) -> Script {
     let mut writer = Writer::new(Random::new(0, 0), false);
     let mut state = Controller::fresh();
@@ -658,6 +644,10 @@ fn write_long_script(number: u64) -> Script {
         channel.mode = 0x90;
     }
     state.channels[1].current_address = 0x8000;
+    if state.command & 1 != 0 {
+        state.channels[0].base_count = 4;
+        state.channels[0].current_count = 2;
+    }
     writer.say_plainly("poke 1 0102030405");
     writer.say_plainly(&format!("state {}", to_hex(&state.body())));
     writer.say_plainly("round 4096");

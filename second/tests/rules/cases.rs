@@ -52,6 +52,7 @@ fn p3_down_over_the_start() {
     assert_eq!([memory[1], memory[0], memory[0xFFFF]], [1, 2, 3]);
 }
 
+/// Channel 0's count is three less afterwards: document 02, A1.
 #[test]
 fn p4_memory_to_memory() {
     let mut open = serving(with_channel(0, 0x100, 7, VERIFY_BLOCK), 0);
@@ -62,7 +63,7 @@ fn p4_memory_to_memory() {
     let (next, stop, got) = open.run(&mut memory, &[], &mut [], 9, 0).unwrap();
     assert_eq!((stop, got), (Stop::Ended, tally(3, 0, 0, 24)));
     assert_eq!(memory[0x200..0x204], [7, 8, 9, 0]);
-    assert_eq!((next.temporary, next.tc, next.channels[0].current_count), (9, 2, 7));
+    assert_eq!((next.temporary, next.tc, next.channels[0].current_count), (9, 2, 4));
 }
 
 fn grants(mut now: Controller, times: usize) -> Vec<usize> {

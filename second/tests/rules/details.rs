@@ -106,7 +106,7 @@ fn a_single_service_ends_without_touching_request_or_mask() {
 
 #[test]
 fn memory_to_memory_with_hold_fills_and_restores_channel_1_only() {
-    let mut open = serving(with_channel(0, 0x40, 3, CASCADE | AUTOINITIALIZE), 0);
+    let mut open = serving(with_channel(0, 0x40, 9, CASCADE | AUTOINITIALIZE), 0);
     set_channel(&mut open, 1, 0x51, 3, AUTOINITIALIZE | DECREMENT);
     open.command = 0x0B;
     open.request = 15;
@@ -116,7 +116,9 @@ fn memory_to_memory_with_hold_fills_and_restores_channel_1_only() {
     let (next, stop, got) = open.run(&mut memory, &[], &mut [], 100, 0).unwrap();
     assert_eq!((stop, got), (Stop::Ended, tally(4, 0, 0, 32)));
     assert_eq!(memory[0x4E..0x52], [0xA5; 4]);
-    assert_eq!(next.channels, open.channels);
+    let mut channels = open.channels;
+    channels[0].current_count = 5;
+    assert_eq!(next.channels, channels);
     assert_eq!((next.request, next.mask, next.tc, next.temporary), (12, 0, 2, 0xA5));
 }
 

@@ -1,6 +1,8 @@
-//! The cases of document 01, its refusals, its list of errors, and the line protocol.
+//! The cases of document 01, its refusals, its list of errors, document 02's request A1, and the
+//! line protocol.
 
 mod cases;
+mod channel_zero;
 mod details;
 mod protocol;
 mod refusals;

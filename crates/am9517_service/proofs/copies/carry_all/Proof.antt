@@ -1,4 +1,5 @@
-use Rattle.am9517_service.proofs.CopyPieceLaws.{Moving, moving-piece, moving-on, moving-end}
+use Rattle.am9517_service.proofs.CopyPieceLaws.{Moving, moving-piece, moving-on, moving-over, moving-end}
+use borrow.Author.Needs.{needs}
 use mathlib.Core.Path.{refl}
 use native.Mathlib.Omega.{arith}
 use Rattle.am9517_service.proofs.copies.carry_all.Statement.{statement}
@@ -20,23 +21,31 @@ carry-straight-requires c κs =
 
 sub-left : tie.Need-sub-left Inv-loop μ-loop
 sub-left c =
-    let at-straight = c .before .before .before .before .before in let at-loop = at-straight .before .before in
+    let at-straight = c .before .before .before .before in let at-loop = at-straight .before .before in
     omega (arith, moving-piece _ (at-loop .loop .inv) (at-straight .straight .ensures) .most)
 
 loop-less : tie.Need-loop-less Inv-loop μ-loop
 loop-less c =
-    let at-straight = c .before .before .before .before .before in let at-loop = at-straight .before .before in
+    let at-straight = c .before .before .before .before .before .before in let at-loop = at-straight .before .before in
     let p = moving-piece _ (at-loop .loop .inv) (at-straight .straight .ensures) in omega (arith, p .most, p .some (omega arith))
 
 loop-again : tie.Need-loop-again Inv-loop μ-loop
 loop-again c =
-    let at-carry-straight = c .before .before .before in let at-straight = at-carry-straight .before .before in
+    let at-carry-straight = c .before .before .before .before in let at-straight = at-carry-straight .before .before in
     let at-loop = at-straight .before .before in
     moving-on _ _ _ _ _ _ _ _ _ (at-loop .loop .inv) (moving-piece _ (at-loop .loop .inv) (at-straight .straight .ensures) .most) (at-carry-straight .carry-straight .ensures) (c .farther .ensures)
 
-same-length : tie.Need-same-length Inv-loop μ-loop
-same-length c = omega (arith, c .before .loop .inv .size, c .before .before .before .pre .0)
+loop-less-2 : tie.Need-loop-less-2 Inv-loop μ-loop
+loop-less-2 c =
+    let at-straight = c .before .before .before .before .before in let at-loop = at-straight .before .before in
+    let p = moving-piece _ (at-loop .loop .inv) (at-straight .straight .ensures) in omega (arith, p .most, p .some (omega arith))
+
+loop-again-2 : tie.Need-loop-again-2 Inv-loop μ-loop
+loop-again-2 c =
+    let at-carry-straight = c .before .before .before in let at-straight = at-carry-straight .before .before in
+    let at-loop = at-straight .before .before in
+    moving-over _ _ _ _ _ _ _ _ (at-loop .loop .inv) (moving-piece _ (at-loop .loop .inv) (at-straight .straight .ensures) .most) (at-carry-straight .carry-straight .ensures) (omega (arith, c .if1 .left))
 
 pub carry-all-spec : {M : Type 1} → statement M
-carry-all-spec = tie.close (tie.spec Inv-loop μ-loop loop-holds (λ c κs. tt) carry-straight-requires (λ c κs. tt) sub-left loop-less loop-again
-    same-length (λ c. moving-end _ _ _ _ _ _ (c .before .loop .inv) (omega arith)))
+carry-all-spec = tie.close (tie.spec Inv-loop μ-loop loop-holds (search needs) carry-straight-requires sub-left (search needs) loop-less loop-again
+    loop-less-2 loop-again-2 (search needs) (λ c. moving-end _ _ _ _ _ _ (c .before .loop .inv) (omega arith)))

@@ -18,25 +18,25 @@ returns : tie.Need-returns
 returns c =
     let at-if1 = c .before in let at-copy-span = at-if1 .before in let at-sixteen-bits = at-copy-span .before in
     let entry = at-sixteen-bits .before .before .before in
-    λ d room. let s = entry in let sb : channel (s .args .t1) 0 .address < 65536 = rw (← s .pre .2) (omega (arith, s .good .1 .1 .0)) in let tb : channel (s .args .t1) 1 .address < 65536 = at-sixteen-bits .sixteen-bits .ensures .0 in let small : channel (s .args .t1) 1 .count < 65536 = at-sixteen-bits .sixteen-bits .ensures .1 in c .stood .ensures _ room ∙ ap stopped (sym (copy-led (s .args .t1) _ d room _ _ (s .pre .0) sb tb small _ (at-copy-span .copy-span .ensures) .stood (at-if1 .if1 .taken)))
+    λ d room. let s = entry in let tb : channel (s .args .t1) 1 .address < 65536 = at-sixteen-bits .sixteen-bits .ensures .0 in let small : channel (s .args .t1) 1 .count < 65536 = at-sixteen-bits .sixteen-bits .ensures .1 in c .stood .ensures _ room ∙ ap stopped (sym (copy-led (s .args .t1) _ d room _ _ (s .pre .0) tb small _ (at-copy-span .copy-span .ensures) .stood (at-if1 .if1 .taken)))
 
 copy-leg-requires : tie.Need-copy-leg-requires
 copy-leg-requires c κs =
     let at-if1 = c .before .before .before in let at-copy-span = at-if1 .before in let at-sixteen-bits = at-copy-span .before in
     let entry = at-sixteen-bits .before .before .before in
-    let s = entry in let sb : channel (s .args .t1) 0 .address < 65536 = rw (← s .pre .2) (omega (arith, s .good .1 .1 .0)) in let tb : channel (s .args .t1) 1 .address < 65536 = at-sixteen-bits .sixteen-bits .ensures .0 in let small : channel (s .args .t1) 1 .count < 65536 = at-sixteen-bits .sixteen-bits .ensures .1 in (omega (arith, at-if1 .if1 .left), copy-led (s .args .t1) [] [] [] _ _ (s .pre .0) sb tb small _ (at-copy-span .copy-span .ensures) .most)
+    let s = entry in let tb : channel (s .args .t1) 1 .address < 65536 = at-sixteen-bits .sixteen-bits .ensures .0 in let small : channel (s .args .t1) 1 .count < 65536 = at-sixteen-bits .sixteen-bits .ensures .1 in (omega (arith, at-if1 .if1 .left), copy-led (s .args .t1) [] [] [] _ _ (s .pre .0) tb small _ (at-copy-span .copy-span .ensures) .most)
 
 copy-bytes-requires : tie.Need-copy-bytes-requires
 copy-bytes-requires c κs =
     let at-if1 = c .before .before .before .before .before in let at-copy-span = at-if1 .before in let at-sixteen-bits = at-copy-span .before in
     let entry = at-sixteen-bits .before .before .before in
-    let s = entry in let sb : channel (s .args .t1) 0 .address < 65536 = rw (← s .pre .2) (omega (arith, s .good .1 .1 .0)) in let tb : channel (s .args .t1) 1 .address < 65536 = at-sixteen-bits .sixteen-bits .ensures .0 in let small : channel (s .args .t1) 1 .count < 65536 = at-sixteen-bits .sixteen-bits .ensures .1 in (s .pre .3, omega (arith, at-if1 .if1 .left), copy-led (s .args .t1) [] [] [] _ _ (s .pre .0) sb tb small _ (at-copy-span .copy-span .ensures) .most)
+    let s = entry in let tb : channel (s .args .t1) 1 .address < 65536 = at-sixteen-bits .sixteen-bits .ensures .0 in let small : channel (s .args .t1) 1 .count < 65536 = at-sixteen-bits .sixteen-bits .ensures .1 in (s .pre .3, omega (arith, at-if1 .if1 .left), copy-led (s .args .t1) [] [] [] _ _ (s .pre .0) tb small _ (at-copy-span .copy-span .ensures) .most)
 
 copied-counts-requires : tie.Need-copied-counts-requires
 copied-counts-requires c κs =
     let at-copy-span = c .before .before .before .before .before .before .before .before .before .before .before in
     let at-sixteen-bits = at-copy-span .before in let entry = at-sixteen-bits .before .before .before in
-    let s = entry in let sb : channel (s .args .t1) 0 .address < 65536 = rw (← s .pre .2) (omega (arith, s .good .1 .1 .0)) in let tb : channel (s .args .t1) 1 .address < 65536 = at-sixteen-bits .sixteen-bits .ensures .0 in let small : channel (s .args .t1) 1 .count < 65536 = at-sixteen-bits .sixteen-bits .ensures .1 in let h = copy-led (s .args .t1) [] [] [] _ _ (s .pre .0) sb tb small _ (at-copy-span .copy-span .ensures) .most in rw (c .no-counts .ensures) (omega (arith, h), omega (arith, h))
+    let s = entry in let tb : channel (s .args .t1) 1 .address < 65536 = at-sixteen-bits .sixteen-bits .ensures .0 in let small : channel (s .args .t1) 1 .count < 65536 = at-sixteen-bits .sixteen-bits .ensures .1 in let h = copy-led (s .args .t1) [] [] [] _ _ (s .pre .0) tb small _ (at-copy-span .copy-span .ensures) .most in rw (c .no-counts .ensures) (omega (arith, h), omega (arith, h))
 
 returns-2 : tie.Need-returns-2
 returns-2 c =
@@ -45,7 +45,7 @@ returns-2 c =
     let at-bits-of = at-copy-leg .before in let at-address-hold = at-bits-of .before in let at-stays-open = at-address-hold .before in
     let at-if1 = at-stays-open .before in let at-copy-span = at-if1 .before in let at-sixteen-bits = at-copy-span .before in
     let entry = at-sixteen-bits .before .before .before in
-    λ d room. let s = entry in let sb : channel (s .args .t1) 0 .address < 65536 = rw (← s .pre .2) (omega (arith, s .good .1 .1 .0)) in let tb : channel (s .args .t1) 1 .address < 65536 = at-sixteen-bits .sixteen-bits .ensures .0 in let small : channel (s .args .t1) 1 .count < 65536 = at-sixteen-bits .sixteen-bits .ensures .1 in copy-answer (s .args .t1) _ d room _ _ (s .pre .0) sb tb small _ (at-copy-span .copy-span .ensures) (omega (arith, at-if1 .if1 .left)) _ (s .pre .2) _ (at-address-hold .address-hold .ensures) _ (at-bits-of .bits-of .ensures) _ (at-copy-leg .copy-leg .ensures) _ (at-copy-bytes .copy-bytes .ensures .0) _ (at-copy-bytes .copy-bytes .ensures .1) _ (at-stays-open .stays-open .ensures) _ (at-after-copy .after-copy .ensures) _ (at-no-counts .no-counts .ensures) _ (at-copied-counts .copied-counts .ensures) _ (c .ran .ensures)
+    λ d room. let s = entry in let tb : channel (s .args .t1) 1 .address < 65536 = at-sixteen-bits .sixteen-bits .ensures .0 in let small : channel (s .args .t1) 1 .count < 65536 = at-sixteen-bits .sixteen-bits .ensures .1 in copy-answer (s .args .t1) _ d room _ _ (s .pre .0) tb small _ (at-copy-span .copy-span .ensures) (omega (arith, at-if1 .if1 .left)) _ (s .pre .2) _ (at-address-hold .address-hold .ensures) _ (at-bits-of .bits-of .ensures) _ (at-copy-leg .copy-leg .ensures) _ (at-copy-bytes .copy-bytes .ensures .0) _ (at-copy-bytes .copy-bytes .ensures .1) _ (at-stays-open .stays-open .ensures) _ (at-after-copy .after-copy .ensures) _ (at-no-counts .no-counts .ensures) _ (at-copied-counts .copied-counts .ensures) _ (c .ran .ensures)
 
 pub run-copy-spec : {M : Type 1} → statement M
 run-copy-spec = tie.close (tie.spec (search needs) (search needs) (search needs) stood-requires returns (search needs) (search needs) (search needs)
