@@ -1,4 +1,4 @@
-/* am9517.h - one Am9517A DMA controller in software, as a C library. Version 2.0.0.
+/* am9517.h - one Am9517A DMA controller in software, as a C library. Version 2.1.0.
  *
  *     am9517_chip chip = am9517_fresh();
  *     uint32_t refusal = am9517_write(&chip, 0xb, 0x85);
@@ -60,9 +60,9 @@ extern "C" {
 #endif
 
 #define AM9517_VERSION_MAJOR 2
-#define AM9517_VERSION_MINOR 0
+#define AM9517_VERSION_MINOR 1
 #define AM9517_VERSION_PATCH 0
-#define AM9517_VERSION 20000  /* major * 10000 + minor * 100 + patch */
+#define AM9517_VERSION 20100  /* major * 10000 + minor * 100 + patch */
 
 #define AM9517_SHEET_SIZE 56      /* bytes of a stored sheet, form 1 */
 #define AM9517_MEMORY_SIZE 65536  /* bytes of a memory: a run or a round takes no other number */

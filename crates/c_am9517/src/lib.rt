@@ -51,7 +51,7 @@ pub struct RoundTold {
 pub extern "C" fn am9517_version() -> u32
     ensures { λ r. ⌜ r ≡ version ⌝ }
 {
-    20000
+    20100
 }
 
 #[no_mangle]
