@@ -65,7 +65,8 @@ static void put_state(u8 *sheet, const struct work *w)
     for (int i = 0; i < 48; i++) sheet[i] = 0;
     for (u32 n = 0; n < 4; n++) {
         u32 address = is_round(w) ? n * 0x4000 : n == 1 ? w->to : w->from;
-        put_channel(sheet, n, address, w->length - 1, n == 1 && is_run(w) ? w->other_mode : w->mode);
+        u32 bytes = n == 0 && is_run(w) && w->k != 0 ? w->k : w->length;
+        put_channel(sheet, n, address, bytes - 1, n == 1 && is_run(w) ? w->other_mode : w->mode);
     }
     sheet[36] = (u8)w->command;
     sheet[42] = 15;
