@@ -10,3 +10,4 @@ pub mod Ranges
 pub mod Calls
 pub mod Sheets
 pub mod Steps
+pub mod Copies

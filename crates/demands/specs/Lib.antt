@@ -1,4 +1,5 @@
 -- The owner's demands. 1: Refusals, Calls. 2: Outcomes, Sheets, Ranges. 3: Fairness, over Grants and Rounds. Operations names what they speak of.
+-- Copies: document 02, A1.
 pub mod Lists
 pub mod Operations
 pub mod Refusals
@@ -10,3 +11,4 @@ pub mod Ranges
 pub mod Calls
 pub mod Sheets
 pub mod Steps
+pub mod Copies

@@ -8,6 +8,7 @@ use Rattle.demands.proofs.Steps.{steps-over-the-width}
 use Rattle.demands.proofs.Sheets.{round-trips}
 use Rattle.demands.proofs.Rounds.{round-is-calls, spelled-leads, round-stops}
 use Rattle.demands.proofs.Fairness.{demand-3, demand-3-reported, lowest-kept}
+use Rattle.demands.proofs.Copies.{copy-loop}
 use Rattle.owner.proofs.Cases.{worked-cases, tight}
 
 pub owner : Owner
@@ -29,5 +30,6 @@ owner =
       fairness = demand-3;
       fairReports = demand-3-reported;
       lowest = lowest-kept;
+      copies = copy-loop;
       tight = tight;
     }

@@ -7,6 +7,7 @@ use Rattle.demands.specs.Steps.{StepsOverTheWidth}
 use Rattle.demands.specs.Sheets.{RoundTrips}
 use Rattle.demands.specs.Rounds.{RoundIsCalls, RoundStops, SpelledLeads}
 use Rattle.demands.specs.Fairness.{Demand3, Demand3Reported, LowestKept}
+use Rattle.demands.specs.Copies.{CopyLoop}
 use Rattle.owner.specs.Cases.{WorkedCases, Tight}
 
 pub record Owner : Type 2 where
@@ -35,5 +36,7 @@ pub record Owner : Type 2 where
   pub fairness : Demand3
   pub fairReports : Demand3Reported
   pub lowest : LowestKept
+  -- Document 02, A1: in every run of memory-to-memory channel 0 steps with each transfer, by nothing else, and ends nothing.
+  pub copies : CopyLoop
   -- Demand 3's numbers can't be better.
   pub tight : Tight
