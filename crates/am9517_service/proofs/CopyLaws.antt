@@ -26,11 +26,11 @@ use Rattle.am9517_service.specs.World.{World, world, startOf, withContro
 use Rattle.am9517_service.specs.Stops.{stops}
 use Rattle.am9517_service.specs.Ends.{counting, reachesTc, finished, afterTcOrEop, single}
 use Rattle.am9517_service.specs.Transfer.{stepped}
-use Rattle.am9517_service.specs.Copy.{sourceNext, copied}
+use Rattle.am9517_service.specs.Copy.{sourceNext, copied, sourceAfter}
 use Rattle.am9517_service.specs.Run.{transferred, runOf}
 use Rattle.am9517_service.specs.ClosedLegs.{addressAfter, currentAfter}
 use Rattle.am9517_service.specs.ClosedSpans.{untilEnd}
-use Rattle.am9517_service.specs.ClosedCopies.{sourceAfter, carriedBy, routeIn, copiedOn, copiedAll, reachedCopying}
+use Rattle.am9517_service.specs.ClosedCopies.{carriedBy, routeIn, copiedOn, copiedAll, reachedCopying}
 use Rattle.words.proofs.ChoiceLaws.{when-both, when-each, when-hit, never, not-false}
 use Rattle.words.proofs.SpreadLaws.{carried-more}
 use Rattle.am9517_service.proofs.SpanLaws.{Until, until}

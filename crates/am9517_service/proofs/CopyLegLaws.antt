@@ -31,7 +31,8 @@ use Rattle.am9517_service.specs.Run.{runOf}
 use Rattle.am9517_service.specs.Answers.{given, stopped}
 use Rattle.am9517_service.specs.ClosedLegs.{addressAfter, currentAfter, legOf}
 use Rattle.am9517_service.specs.ClosedSpans.{untilEnd, span, staysOpen, copySpan}
-use Rattle.am9517_service.specs.ClosedCopies.{sourceAfter, carriedBy, routeOf, routeIn, copyLegOf, lastByte, afterCopy, copiedOn, copiedAll, reachedCopying}
+use Rattle.am9517_service.specs.Copy.{sourceAfter}
+use Rattle.am9517_service.specs.ClosedCopies.{carriedBy, routeOf, routeIn, copyLegOf, lastByte, afterCopy, copiedOn, copiedAll, reachedCopying}
 use Rattle.words.proofs.ChoiceLaws.{when-each, never, not-false}
 use Rattle.words.proofs.StepLaws.{steps-below}
 use Rattle.words.proofs.SpreadLaws.{carried-last}

@@ -10,17 +10,18 @@ use lib.ListN.{length, getD, set}
 use borrow.Author.Tests.{eqb-true, ltb-true, ltb-false}
 use Rattle.words.specs.Choice.{when}
 use Rattle.words.specs.Steps.{steps}
-use Rattle.words.specs.Spans.{least, carried}
+use Rattle.words.specs.Spans.{least, carried, Within}
 use Rattle.am9517.specs.Modes.{autoinitialize, decrement}
 use Rattle.am9517.specs.declared.Channel.{Channel}
 use Rattle.am9517_service.specs.declared.copies.Route.{Route}
 use Rattle.am9517_service.specs.ClosedLegs.{addressAfter}
-use Rattle.am9517_service.specs.ClosedCopies.{sourceAfter, sourceOn, restored, restores, carriedBy, carriedAlong, straightOf, farther, begun, beginningAgain, routeOf, lastByte}
+use Rattle.am9517_service.specs.Copy.{sourceAfter}
+use Rattle.am9517_service.specs.ClosedCopies.{sourceOn, restored, restores, carriedBy, carriedAlong, straightOf, farther, begun, beginningAgain, routeOf, lastByte}
 use Rattle.am9517_service.specs.Needs.{Straight, Again}
-use Rattle.words.proofs.ChoiceLaws.{when-both, when-each, when-hit, never}
+use Rattle.words.proofs.ChoiceLaws.{when-both, when-each, when-hit, when-same, never}
 use Rattle.words.proofs.StepLaws.{steps-none, steps-on, steps-below}
 use Rattle.words.proofs.BoundLaws.{least-left, least-right, least-some}
-use Rattle.words.proofs.SpreadLaws.{length-carried, carried-same, carried-on}
+use Rattle.words.proofs.SpreadLaws.{carried-same, carried-on}
 use Rattle.am9517_service.proofs.TransferLaws.{address-after-none}
 use Rattle.am9517_service.proofs.CopyPieceLaws.{Piece, piece, route-length}
 use Rattle.am9517_service.proofs.CopySourceLaws.{source-none, source-add, on-none, on-add, source-on, source-restored, source-again, source-left}
@@ -98,16 +99,26 @@ module _ {ρ₀ : Route} {area n : ℕ} {m₀ : List ℕ} {ρ : Route} {m : List
   target-there : ρ .to < 65536
   target-there = rw (g .route) (steps-below 16 (ρ₀ .«to_down») (ρ₀ .to) d)
 
-  pub laying-piece : 0 < left → (k : ℕ) → k ≡ least (straightOf ρ left) until → Stretch ρ until left k
-  laying-piece h k e =
+  one-within : (down : Bool) (a : ℕ) → a < 65536 → Within down a 1 65536
+  one-within down a h = record { up = λ e. omega arith; back = λ e. (h, omega arith) }
+
+  pub laying-piece : 0 < left → (each : Bool) (k : ℕ) → k ≡ when each 1 (least (straightOf ρ left) until) → Stretch ρ until left k
+  laying-piece h each k e =
       let p : Piece ρ left (straightOf ρ left) = piece ρ left source-there target-there in
       rw e
+      (when-both (Stretch ρ until left) each
+      (record {
+        some = omega arith;
+        most = h;
+        within = g .some;
+        straight = record { target = one-within (ρ .«to_down») (ρ .to) target-there; source = λ free. one-within (decrement (ρ .source .mode)) (ρ .source .address) source-there };
+      })
       (record {
         some = least-some (straightOf ρ left) until (p .some h) (g .some);
         most = omega (arith, least-left (straightOf ρ left) until, p .most);
         within = least-right (straightOf ρ left) until;
         straight = straight-fewer ρ (straightOf ρ left) (least (straightOf ρ left) until) (least-left (straightOf ρ left) until) (p .straight);
-      })
+      }))
 
   module _ (k : ℕ) (s : Stretch ρ until left k) (m' : List ℕ) (em : m' ≡ carriedAlong ρ m k) where
     done-more : d + k ≡ n - (left - k)
@@ -191,6 +202,16 @@ module _ {ρ₀ : Route} {area n : ℕ} {m₀ : List ℕ} {ρ : Route} {m : List
   pub laying-end : left ≡ 0 → (from : ℕ → ℕ) → Again ρ₀ area n from → m ≡ carried (goals ρ₀) from m₀ n
   laying-end z from a = let all : n - left ≡ n = omega arith in g .same from a ∙ ap (carried (goals ρ₀) from m₀) all
 
+-- a byte by itself
+pub one-along : (ρ : Route) (m : List ℕ) (n : ℕ) → n ≡ 1 → ρ .source .address < 65536 → ρ .to < 65536 → set m (ρ .to) (getD m (ρ .source .address) 0) ≡ carriedAlong ρ m n
+unfolding carriedAlong carried addressAfter
+one-along ρ m n one below goal =
+    let from : ρ .source .address ≡ when (ρ .hold) (ρ .source .address) (steps 16 (decrement (ρ .source .mode)) (ρ .source .address) 0) =
+    sym (ap (when (ρ .hold) (ρ .source .address)) (steps-none 16 (decrement (ρ .source .mode)) (ρ .source .address) below) ∙ when-same (ρ .hold) (ρ .source .address)) in
+    rw one
+    (ap (λ (a : ℕ). set m a (getD m (ρ .source .address) 0)) (sym (steps-none 16 (ρ .«to_down») (ρ .to) goal))
+    ∙ ap (λ (a : ℕ). set m (goals ρ 0) (getD m a 0)) from)
+
 -- where none before the last restores it
 few-before : (ch : Channel) (n : ℕ) → restores ch n ≡ false → autoinitialize (ch .mode) ≡ true → n ≤ ch .count + 1
 unfolding restores
@@ -202,10 +223,6 @@ unfolding carriedAlong carriedBy
 along-by hold source target m n below small h =
     carried-same _ _ _ _ m n (λ j l. refl)
     (λ j l. ap (λ (x : Channel). x .address) (sym (source-on hold source below small j (λ t. omega (arith, few-before source n h t)))))
-
-pub bytes-length : (ρ : Route) (m : List ℕ) (n : ℕ) → length (carriedBy ρ m n) ≡ length m
-unfolding carriedBy
-bytes-length ρ m n = length-carried _ _ m n
 
 -- the byte of one transfer alone
 pub one-carried : (hold : Bool) (source target : Channel) (m : List ℕ) (n : ℕ) → n ≡ 1 → target .address < 65536

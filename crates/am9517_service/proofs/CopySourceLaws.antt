@@ -13,9 +13,9 @@ use Rattle.am9517.specs.Modes.{autoinitialize, decrement}
 use Rattle.am9517.specs.declared.Channel.{Channel}
 use Rattle.am9517_service.specs.Transfer.{withCurrent}
 use Rattle.am9517_service.specs.Ends.{channelAfter}
-use Rattle.am9517_service.specs.Copy.{sourceStepped, sourceNext}
+use Rattle.am9517_service.specs.Copy.{sourceStepped, sourceNext, sourceAfter}
 use Rattle.am9517_service.specs.ClosedLegs.{addressAfter}
-use Rattle.am9517_service.specs.ClosedCopies.{sourceAfter, sourceOn, restored}
+use Rattle.am9517_service.specs.ClosedCopies.{sourceOn, restored}
 use Rattle.words.proofs.ChoiceLaws.{when-both, when-each, when-hit, not-true}
 use Rattle.words.proofs.StepLaws.{steps-next, steps-none, steps-on}
 use Rattle.am9517.proofs.RangeLaws.{and-left, and-right}

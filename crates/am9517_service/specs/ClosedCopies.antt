@@ -1,5 +1,5 @@
 -- A leg of memory-to-memory, in closed form. What a run is, Run.antt says.
-use Prim.Native.Nat.{ℕ, zero, suc, _+_, _-_, _*_}
+use Prim.Native.Nat.{ℕ, _+_, _-_, _*_}
 use mathlib.Core.Bool.{Bool, true, false, _||_}
 use mathlib.Core.List.{List}
 use lib.Dec.{eqb, ltb}
@@ -20,15 +20,10 @@ use Rattle.am9517_service.specs.World.{World, world, startOf}
 use Rattle.am9517_service.specs.Transfer.{withCurrent}
 use Rattle.am9517_service.specs.Ends.{withBits}
 use Rattle.am9517_service.specs.States.{copyPace}
-use Rattle.am9517_service.specs.Copy.{sourceNext}
+use Rattle.am9517_service.specs.Copy.{sourceAfter}
 use Rattle.am9517_service.specs.ClosedLegs.{addressAfter, currentAfter, legOf}
 
--- channel 0 after n transfers
-unfoldable pub sourceAfter : Bool → Channel → ℕ → Channel
-sourceAfter hold ch zero = ch
-sourceAfter hold ch (suc n) = sourceNext hold (sourceAfter hold ch n)
-
--- after n of which none restores it, and as it is restored
+-- channel 0 after n transfers of which none restores it, and as it is restored; after any n: Copy `sourceAfter`
 abbrev pub sourceOn : Bool → Channel → ℕ → Channel
 sourceOn hold ch n = withCurrent ch (when hold (ch .address) (addressAfter ch n)) (steps 16 true (ch .count) n)
 

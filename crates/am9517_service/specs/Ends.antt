@@ -16,7 +16,7 @@ use Rattle.am9517_service.specs.declared.legs.Bits.{Bits}
 use Rattle.am9517_service.specs.World.{World, withController, memoryToMemory, servingChannel, Stop, stop}
 use Rattle.am9517_service.specs.Transfer.{withCurrent}
 
--- the channel whose count is run: in memory-to-memory channel 1 ("Channel 1's count steps; its TC sets TC bit 1"), else the serving one
+-- the channel whose count passing 0 is TC: in memory-to-memory channel 1 ("Channel 1's count steps; its TC sets TC bit 1"), else the serving one
 unfoldable pub counting : Controller → ℕ
 counting c = when (memoryToMemory c) 1 (c .serving)
 
@@ -59,7 +59,7 @@ finished c n tc eop =
 
 -- in memory-to-memory "At TC or EOP the service ends, request bits 0 and 1 are cleared, and channel 1 restores or is masked by its
 -- own mode bit 4. Channel 0's count and mask bit aren't touched": it is channel 1 that finishes, and only its mask bit is set. As to the
--- count document 02's A1 overrules it (Copy `sourceNext`): the end of the service touches neither
+-- count document 02's A1 overrules it (Copy `sourceStepped`): the end of the service touches neither
 unfoldable pub afterTcOrEop : Controller → Bool → Bool → Controller
 afterTcOrEop c tc eop =
     when (memoryToMemory c) (finished (put c Request (withBit (c .request) 0 false)) 1 tc eop) (finished c (c .serving) tc eop)

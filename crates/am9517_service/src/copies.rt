@@ -18,9 +18,11 @@ ghost use mathlib.Core.Path.{_≡_};
 ghost use mathlib.Core.Bool.{true};
 ghost use Prim.Native.Nat.{ℕ, _≤_, _<_};
 ghost use lib.ListN.{length};
+ghost use Rattle.words.specs.Choice.{when};
 ghost use Rattle.words.specs.Steps.{steps};
-ghost use Rattle.words.specs.Spans.{carried};
-ghost use Rattle.am9517_service.specs.ClosedCopies.{sourceOn, restored, sourceAfter, restores, carriedAlong, carriedBy, straightOf, farther, begun, beginningAgain, routeOf, copyLegOf, lastByte};
+ghost use Rattle.words.specs.Spans.{least, carried};
+ghost use Rattle.am9517_service.specs.Copy.{sourceAfter};
+ghost use Rattle.am9517_service.specs.ClosedCopies.{sourceOn, restored, restores, carriedAlong, carriedBy, straightOf, farther, begun, beginningAgain, routeOf, copyLegOf, lastByte};
 ghost use Rattle.am9517_service.specs.Needs.{Straight, Again};
 
 // Where the bytes of memory-to-memory come from and go to: channel 0's record, held or not, and channel 1's address and direction.
@@ -36,6 +38,18 @@ pub struct Copied {
     pub source: Channel,
     pub target: Channel,
     pub bits: Bits,
+}
+
+// The route from one channel to another.
+fn route_of(hold: bool, source: Channel, target: Channel) -> Route
+    ensures { λ r. ⌜ r ≡ routeOf hold source target ⌝ }
+{
+    Route {
+        hold,
+        source,
+        to: target.address,
+        to_down: decrement(target.mode),
+    }
 }
 
 // Channel 0 after n transfers that don't restore it.
@@ -112,7 +126,7 @@ fn carry_straight(memory: &mut [u8], route: Route, n: usize)
     }
 }
 
-// The route n bytes on.
+// The route n bytes on, none of which restores channel 0.
 fn farther(route: Route, n: u64) -> Route
     ensures { λ r. ⌜ r ≡ farther route n ⌝ }
 {
@@ -153,18 +167,44 @@ fn begun(route: Route, source: Channel) -> Route
     }
 }
 
-// n bytes along a route whose source begins again after each `area` of them.
+// How many of `left` bytes come next, where `until` more come before the source begins again: one where they go one by one.
+fn piece_of(route: Route, each: bool, until: usize, left: usize) -> usize
+    ensures { λ r. ⌜ r ≡ when each 1 (least (straightOf route left) until) ⌝ }
+{
+    if each {
+        return 1;
+    }
+    lesser(straight(route, left), until)
+}
+
+// The first n bytes of a route, where no address turns over: one by itself, or as many as there are.
+fn carry_piece(memory: &mut [u8], route: Route, each: bool, n: usize)
+    requires { ⌜ (length (now memory) ≡ 65536) × Straight route n × (each ≡ true → n ≡ 1) ⌝ }
+    ensures { λ _. ⌜ now (memory .exit) ≡ carriedAlong route (now (memory .entry)) n ⌝ }
+{
+    if each {
+        let source = route.source;
+        let from = source.address as usize;
+        let to = route.to as usize;
+        memory[to] = memory[from];
+    } else {
+        carry_straight(memory, route, n);
+    }
+}
+
+// n bytes along a route whose source begins again after each `area` of them. A few, and those of small areas, go one by one: pieces cost more.
 fn lay(route: Route, area: usize, memory: &mut [u8], n: usize)
     requires { ⌜ (length (now memory) ≡ 65536) × (0 < area) ⌝ }
     ensures { λ _. ⌜ ((from : ℕ → ℕ) → Again route area n from → now (memory .exit) ≡ carried (steps 16 (route .«to_down») (route .to)) from (now (memory .entry)) n) ⌝ }
 {
     let source = route.source;
+    let each = (n < 32) | (!route.hold & (area < 7));
     let mut here = route;
     let mut until = area;
     let mut left = n;
     while 0 < left {
-        let piece = lesser(straight(here, left), until);
-        carry_straight(memory, here, piece);
+        let piece = piece_of(here, each, until, left);
+        carry_piece(memory, here, each, piece);
         here = farther(here, piece as u64);
         until -= piece;
         left -= piece;
@@ -196,6 +236,7 @@ fn carry_restoring(source: Channel, target: Channel, hold: bool, memory: &mut [u
     let route = route_of(hold, source, target);
     lay(route, first, memory, first);
     let again = beginning_again(route, first as u64);
+    // a held source never begins again: no service has more bytes
     let area = when_size(again.hold, 65536, again.source.count as usize + 1);
     lay(again, area, memory, n as usize - first);
 }
@@ -225,17 +266,6 @@ pub(crate) fn copy_leg(
     }
 }
 
-fn route_of(hold: bool, source: Channel, target: Channel) -> Route
-    ensures { λ r. ⌜ r ≡ routeOf hold source target ⌝ }
-{
-    Route {
-        hold,
-        source,
-        to: target.address,
-        to_down: decrement(target.mode),
-    }
-}
-
 // The bytes of n transfers; the last one is given.
 pub(crate) fn copy_bytes(
     source: Channel,
@@ -258,15 +288,15 @@ pub(crate) fn copy_bytes(
     let last = address_after(target, n - 1) as usize;
     if restores(source, n) {
         carry_restoring(source, target, hold, memory, n);
-    } else {
-        // Written out: by route_of both ways share one route, and the compiler puts it on the stack.
-        let route = Route {
-            hold,
-            source,
-            to: target.address,
-            to_down: decrement(target.mode),
-        };
-        carry_all(route, memory, n);
+        return memory[last];
     }
+    // Written out: by route_of both ways share one route, and the compiler puts it on the stack.
+    let route = Route {
+        hold,
+        source,
+        to: target.address,
+        to_down: decrement(target.mode),
+    };
+    carry_all(route, memory, n);
     memory[last]
 }

@@ -23,13 +23,12 @@ use Rattle.am9517_service.specs.declared.spans.Span.{Span}
 use Rattle.am9517_service.specs.Counts.{counts}
 use Rattle.am9517_service.specs.World.{World, startOf, Stop, memoryToMemory}
 use Rattle.am9517_service.specs.States.{copyPace}
-use Rattle.am9517_service.specs.Copy.{sourceNext, copied}
+use Rattle.am9517_service.specs.Copy.{sourceNext, copied, sourceAfter}
 use Rattle.am9517_service.specs.Ends.{finished, afterTcOrEop, channelAfter}
 use Rattle.am9517_service.specs.Transfer.{stepped}
 use Rattle.am9517_service.specs.Run.{runOf}
 use Rattle.am9517_service.specs.Answers.{Given, stopped, ranOf}
 use Rattle.am9517_service.specs.ClosedSpans.{copySpan}
-use Rattle.am9517_service.specs.ClosedCopies.{sourceAfter}
 use Rattle.words.proofs.ChoiceLaws.{when-both, when-hit, when-miss}
 use Rattle.words.proofs.StepLaws.{steps-none, steps-next}
 use Rattle.am9517_service.proofs.AnswerLaws.{run-accepted}

@@ -14,7 +14,7 @@ use Rattle.am9517.specs.declared.Controller.{Controller}
 use Rattle.am9517_service.specs.declared.Ran.{Ran}
 use Rattle.am9517_service.specs.World.{memoryToMemory}
 use Rattle.am9517_service.specs.Answers.{runGrounds, ranOf}
-use Rattle.am9517_service.specs.ClosedCopies.{sourceAfter}
+use Rattle.am9517_service.specs.Copy.{sourceAfter}
 
 -- a run of memory-to-memory that isn't refused
 pub record Copies (c : Controller) (m : List ℕ) : Type 0 where

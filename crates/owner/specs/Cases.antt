@@ -100,35 +100,35 @@ p3 =
 abbrev pub copied : ℕ → ℕ → List ℕ → List ℕ
 copied a b m = set m b (getD m a 0)
 
--- channel 0 is granted in memory-to-memory and run, n bytes to 20h on: its registers before and after, command, n, states, the memory before
--- the last byte is moved, and where that one comes from
-abbrev pub copying : Channel → Channel → ℕ → ℕ → ℕ → (List ℕ → List ℕ) → ℕ → Case
-copying was is command n states before a =
+-- channel 0 is granted in memory-to-memory and run, from its address on to 20h on: its registers before and after, command, channel 1's count;
+-- transfers, states, the memory before the last byte is moved, and where that one comes from
+abbrev pub copying : Channel → Channel → ℕ → ℕ → ℕ → ℕ → (List ℕ → List ℕ) → ℕ → Case
+copying was is command count transfers states before a =
     record {
       size = 65536;
-      start = idleWith was (ch 0x20 0x20 (n - 1) (n - 1) 0x84) command 0 12 0;
+      start = idleWith was (ch 0x20 0x20 count count 0x84) command 0 12 0;
       calls = λ m. Grant ∷ [];
       expected = λ m.
           Gives [] 0
-          (ends (idleWith is (ch 0x20 (0x20 + n) (n - 1) 0xFFFF 0x84) command 2 14 (getD (before m) a 0)) n 0 states (copied a (0x20 + n - 1) (before m)));
+          (ends (idleWith is (ch 0x20 (0x20 + transfers) count 0xFFFF 0x84) command 2 14 (getD (before m) a 0)) transfers 0 states (copied a (0x20 + transfers - 1) (before m)));
     }
 
 -- "P4 memory-to-memory, channel 1 count 2: three bytes, 24 states."
 abbrev pub p4 : Case
-p4 = copying (ch 0x10 0x10 0 0 0x80) (ch 0x10 0x13 0 0xFFFD 0x80) 1 3 24 (λ m. copied 0x11 0x21 (copied 0x10 0x20 m)) 0x12
+p4 = copying (ch 0x10 0x10 0 0 0x80) (ch 0x10 0x13 0 0xFFFD 0x80) 1 2 3 24 (λ m. copied 0x11 0x21 (copied 0x10 0x20 m)) 0x12
 
 -- Document 02, A1: "Channel 0's count steps down with every transfer, also under address hold."
 -- Its count and base count 1, autoinitialize, upward from 10h: read are 10h, 11h, 10h, 11h, and it stands where it began
 abbrev pub a1Area : Case
-a1Area = copying (ch 0x10 0x10 1 1 0x90) (ch 0x10 0x10 1 1 0x90) 1 4 32 (λ m. copied 0x10 0x22 (copied 0x11 0x21 (copied 0x10 0x20 m))) 0x11
+a1Area = copying (ch 0x10 0x10 1 1 0x90) (ch 0x10 0x10 1 1 0x90) 1 3 4 32 (λ m. copied 0x10 0x22 (copied 0x11 0x21 (copied 0x10 0x20 m))) 0x11
 
 -- the same under hold, at 10h, with base 18h: read are 10h, 10h, 18h, 18h
 abbrev pub a1Held : Case
-a1Held = copying (ch 0x18 0x10 1 1 0x90) (ch 0x18 0x18 1 1 0x90) 3 4 32 (λ m. copied 0x18 0x22 (copied 0x10 0x21 (copied 0x10 0x20 m))) 0x18
+a1Held = copying (ch 0x18 0x10 1 1 0x90) (ch 0x18 0x18 1 1 0x90) 3 3 4 32 (λ m. copied 0x18 0x22 (copied 0x10 0x21 (copied 0x10 0x20 m))) 0x18
 
 -- count 0 without autoinitialize: FFFFh after one transfer, and neither TC bit 0 nor mask bit 0 is set
 abbrev pub a1Count : Case
-a1Count = copying (ch 0x10 0x10 0 0 0x80) (ch 0x10 0x11 0 0xFFFF 0x80) 1 1 8 (λ m. m) 0x10
+a1Count = copying (ch 0x10 0x10 0 0 0x80) (ch 0x10 0x11 0 0xFFFF 0x80) 1 0 1 8 (λ m. m) 0x10
 
 -- rotating; all four single (verify) with count 9 and unmasked; these lines held: as a driver sets it up
 abbrev pub setUp : ℕ → List Op
@@ -200,7 +200,7 @@ running size o n =
 abbrev pub proved : List Case
 proved = p1 ∷ p2 ∷ p2compressed ∷ p3 ∷ p4 ∷ p5 ∷ p6 ∷ p7 ∷ p8 ∷ p9 ∷ []
 
--- Beside P4, what document 02's A1 asks for.
+-- Beside P4, for document 02's A1.
 abbrev pub requested : List Case
 requested = a1Area ∷ a1Held ∷ a1Count ∷ []
 

@@ -3,7 +3,6 @@ use Prim.Native.Nat.{ℕ, _<_}
 use Rattle.words.proofs.ChoiceLaws.{when-both}
 use Rattle.am9517_service.proofs.CopyRestoreLaws.{first-below, restoring-by}
 use native.Mathlib.Omega.{arith}
-use Rattle.am9517_service.proofs.CopyRestoreLaws.{first-below}
 use borrow.Author.Needs.{needs}
 use Rattle.am9517_service.proofs.copies.carry_restoring.Statement.{statement}
 use Rattle.am9517_service.proofs.copies.carry_restoring.Tie as tie

@@ -1,5 +1,4 @@
 use mathlib.Core.Path.{sym, _∙_}
-use mathlib.Core.Path.{sym}
 use Rattle.words.proofs.ChoiceLaws.{when-hit, when-miss}
 use Rattle.am9517_service.specs.ClosedCopies.{restores}
 use borrow.Author.Needs.{needs}

@@ -2,7 +2,6 @@ use Prim.Native.Nat.{_+_, _-_, _%_}
 use Rattle.am9517.specs.Modes.{autoinitialize}
 use mathlib.Core.Bool.{Bool, _&&_}
 use mathlib.Core.Path.{sym, ap, _∙_}
-use Prim.Native.Nat.{_+_, _%_}
 use lib.Dec.{leb}
 use Rattle.am9517.specs.declared.Channel.{Channel}
 use Rattle.am9517_service.specs.ClosedCopies.{sourceOn}
