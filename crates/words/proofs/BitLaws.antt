@@ -4,8 +4,10 @@ use mathlib.Core.Path.{_≡_, refl, sym, ap, ap₂, _∙_}
 use mathlib.Core.Bool.{Bool, true, false}
 use native.Mathlib.Omega.{arith}
 use native.Mathlib.Nat.{div-eq-of-lt, mod-eq-of-lt, mod-lt}
+use lib.Dec.{ltb}
 use lib.Pow.{pow-mono, pow-pos, split}
 use lib.Bits.{bitAnd, bitOr, and-step, or-step, and-shr, or-shr, and-block, and-mask, and-high, and-le-l, and-zero-r, or-add-and}
+use borrow.Author.Tests.{ltb-true}
 use Rattle.words.specs.Choice.{when}
 use Rattle.words.specs.Bits.{bit, withBit}
 
@@ -66,3 +68,12 @@ pub four-kept : (b n : ℕ) (set : Bool) → b ≤ 15 → n < 4 → withBit b n 
 unfolding withBit when
 four-kept b n true hb hn = below8 (λ (k : ℕ). k < 4 → withBit b k true ≤ 15) (λ l. omega arith) (λ l. omega arith) (λ l. omega arith) (λ l. omega arith) (λ l. absurd (omega arith)) (λ l. absurd (omega arith)) (λ l. absurd (omega arith)) (λ l. absurd (omega arith)) n (omega arith) hn
 four-kept b n false hb hn = below8 (λ (k : ℕ). k < 4 → withBit b k false ≤ 15) (λ l. omega arith) (λ l. omega arith) (λ l. omega arith) (λ l. omega arith) (λ l. absurd (omega arith)) (λ l. absurd (omega arith)) (λ l. absurd (omega arith)) (λ l. absurd (omega arith)) n (omega arith) hn
+
+-- a bit that is set stays as it is where it is set again
+pub bit-twice : (b n : ℕ) → withBit (withBit b n true) n true ≡ withBit b n true
+unfolding withBit when
+bit-twice b n = go (ltb n 8) refl
+  where
+    go : (t : Bool) → ltb n 8 ≡ t → withBit (withBit b n true) n true ≡ withBit b n true
+    go true e = below8 (λ (k : ℕ). withBit (withBit b k true) k true ≡ withBit b k true) (omega arith) (omega arith) (omega arith) (omega arith) (omega arith) (omega arith) (omega arith) (omega arith) n (ltb-true n 8 e)
+    go false e = rw e

@@ -30,6 +30,12 @@ unfolding when
 when-same true a = refl
 when-same false a = refl
 
+-- a function of what is chosen is what it makes of each
+pub when-over : {A B : Type 0} (f : A → B) (t : Bool) {a b : A} {x y : B} → (t ≡ true → x ≡ f a) → (t ≡ false → y ≡ f b) → when t x y ≡ f (when t a b)
+unfolding when
+when-over f true h g = h refl
+when-over f false h g = g refl
+
 pub record Both (a b : Bool) : Type 0 where
   pub left : a ≡ true
   pub right : b ≡ true
