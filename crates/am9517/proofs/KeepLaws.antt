@@ -22,19 +22,20 @@ modes-kept (y ∷ ys) zero (suc k) x e = refl
 modes-kept (y ∷ ys) (suc n) zero x e = refl
 modes-kept (y ∷ ys) (suc n) (suc k) x e = modes-kept ys n k x e
 
--- What a service leaves of a state: modes, pins, flip-flop and lowest channel, and four bits of each set.
+-- What a service leaves of a state: modes, pins, flip-flop, lowest channel and edition, and four bits of each set.
 pub record Kept (s t : Controller) : Type 0 where
   pub mode : (n : ℕ) → channel t n .mode ≡ channel s n .mode
   pub pins : t .pins ≡ s .pins
   pub flipFlop : t .«flip_flop» ≡ s .«flip_flop»
   pub lowest : t .lowest ≡ s .lowest
+  pub edition : t .edition ≡ s .edition
   pub tc : t .tc ≤ 15
   pub request : t .request ≤ 15
   pub mask : t .mask ≤ 15
 
 module _ (s : Controller) (r : Ranges s) where
   pub kept-same : Kept s s
-  kept-same = record { mode = λ n. refl; pins = refl; flipFlop = refl; lowest = refl; tc = r .fields .tc; request = r .fields .request; mask = r .fields .mask }
+  kept-same = record { mode = λ n. refl; pins = refl; flipFlop = refl; lowest = refl; edition = refl; tc = r .fields .tc; request = r .fields .request; mask = r .fields .mask }
 
   kept-fields : (t : Controller) → Kept s t → t .«in_service» ≤ 1 → t .«latch_full» ≤ 1 → t .serving ≤ 3 → Fields t
   kept-fields t k i f n =
@@ -48,6 +49,7 @@ module _ (s : Controller) (r : Ranges s) where
         latchFull = f;
         lowest = rw (k .lowest) (r .fields .lowest);
         serving = n;
+        edition = rw (k .edition) (r .fields .edition);
       }
 
   -- a service that stays open
@@ -65,7 +67,7 @@ module _ (s : Controller) (r : Ranges s) where
   kept-ended t k =
       record {
         mode = λ n h. ap modeValid (k .mode n) ∙ r .mode n h;
-        fields = kept-fields (ended t) (record { mode = k .mode; pins = k .pins; flipFlop = k .flipFlop; lowest = k .lowest; tc = k .tc; request = k .request; mask = k .mask }) (omega arith) (omega arith) (omega arith);
+        fields = kept-fields (ended t) (record { mode = k .mode; pins = k .pins; flipFlop = k .flipFlop; lowest = k .lowest; edition = k .edition; tc = k .tc; request = k .request; mask = k .mask }) (omega arith) (omega arith) (omega arith);
         rest = λ e. (refl, refl);
         latch = λ e. refl;
       }
@@ -76,7 +78,7 @@ module _ (s : Controller) (r : Ranges s) where
   granted-kept n h =
       record {
         mode = r .mode;
-        fields = record { tc = r .fields .tc; request = r .fields .request; mask = r .fields .mask; pins = r .fields .pins; flipFlop = r .fields .flipFlop; inService = omega arith; latchFull = omega arith; lowest = when-both (λ (x : ℕ). x ≤ 3) (rotating (s .command)) (omega arith) (r .fields .lowest); serving = omega arith };
+        fields = record { tc = r .fields .tc; request = r .fields .request; mask = r .fields .mask; pins = r .fields .pins; flipFlop = r .fields .flipFlop; inService = omega arith; latchFull = omega arith; lowest = when-both (λ (x : ℕ). x ≤ 3) (rotating (s .command)) (omega arith) (r .fields .lowest); serving = omega arith; edition = r .fields .edition };
         rest = λ e. absurd (omega arith);
         latch = λ e. refl;
       }

@@ -9,7 +9,7 @@ use lib.Dec.{eqb}
 use lib.Bits.{bitAnd, and-block, and-high, and-zero-r}
 use borrow.Author.Tests.{eq-eqb, eqb-true, eqb-false}
 use Rattle.am9517.specs.Ranges.{modesValid, valid}
-use Rattle.am9517.specs.ClosedMasks.{joined, flags, pair, flagsOf, pairOf}
+use Rattle.am9517.specs.ClosedMasks.{joined, flags, others, flagsOf, othersOf}
 use Rattle.am9517.specs.declared.Controller.{Controller}
 use Rattle.words.proofs.ChoiceLaws.{never}
 use Rattle.am9517.proofs.RangeLaws.{Fields, Ranges, ranges, of-ranges, modes-of, and-left, and-right}
@@ -40,7 +40,7 @@ cleared (b ∷ bs) [] hb hm c = and-zero-r (joined (b ∷ bs))
 cleared (b ∷ bs) (m ∷ ms) hb hm c =
     and-block 8 (joined bs) (joined ms) b m (hb .0) (hm .0) ∙ omega (arith, c .0, cleared bs ms (hb .1) (hm .1) (c .1))
 
--- the bits that must be zero in an idle state, in a service, and in the other two fields
+-- the bits that must be zero in an idle state, in a service, and in the other four fields
 abbrev fourMasks : List ℕ → List ℕ
 fourMasks ms = 0xf0 ∷ 0xf0 ∷ 0xf0 ∷ 0xf0 ∷ ms
 
@@ -50,8 +50,8 @@ idleMasks = 0xff ∷ 0xff ∷ 0xff ∷ 0xff ∷ []
 abbrev openMasks : List ℕ
 openMasks = 0xfe ∷ 0xfc ∷ 0xfe ∷ 0 ∷ []
 
-abbrev pairMasks : List ℕ
-pairMasks = 0xfc ∷ 0xfe ∷ []
+abbrev otherMasks : List ℕ
+otherMasks = 0xfc ∷ 0xfe ∷ 0xfe ∷ 0 ∷ []
 
 idle-bytes : Bytes (fourMasks idleMasks)
 idle-bytes = (omega arith, (omega arith, (omega arith, (omega arith, (omega arith, (omega arith, (omega arith, (omega arith, tt))))))))
@@ -59,8 +59,8 @@ idle-bytes = (omega arith, (omega arith, (omega arith, (omega arith, (omega arit
 open-bytes : Bytes (fourMasks openMasks)
 open-bytes = (omega arith, (omega arith, (omega arith, (omega arith, (omega arith, (omega arith, (omega arith, (omega arith, tt))))))))
 
-pair-bytes : Bytes pairMasks
-pair-bytes = (omega arith, (omega arith, tt))
+other-bytes : Bytes otherMasks
+other-bytes = (omega arith, (omega arith, (omega arith, (omega arith, tt))))
 
 -- what the high j of j + k bits leave of a number
 high-bits : (j k b : ℕ) → b / 2 ^ k < 2 ^ j → bitAnd b (2 ^ (j + k) - 2 ^ k) ≡ b / 2 ^ k * 2 ^ k
@@ -91,22 +91,22 @@ idleFlags s = eqb (bitAnd (flagsOf s) 0xffff_ffff_f0f0_f0f0) 0
 abbrev openFlags : Controller → Bool
 openFlags s = eqb (bitAnd (flagsOf s) 0x00fe_fcfe_f0f0_f0f0) 0
 
-abbrev pairTest : Controller → Bool
-pairTest s = eqb (bitAnd (pairOf s) 0xfefc) 0
+abbrev otherTest : Controller → Bool
+otherTest s = eqb (bitAnd (othersOf s) 0x00fe_fefc) 0
 
 abbrev latchTest : Controller → Bool
 latchTest s = eqb (s .«latch_full») 1 || eqb (s .latch) 0
 
 abbrev pub idleTest : Controller → Bool
-idleTest s = idleFlags s && pairTest s
+idleTest s = idleFlags s && otherTest s
 
 abbrev openFields : Controller → Bool
-openFields s = openFlags s && pairTest s
+openFields s = openFlags s && otherTest s
 
 abbrev pub openTest : Controller → Bool
 openTest s = (openFields s && eqb (s .«in_service») 1) && latchTest s
 
-module _ (s : Controller) (fits : Bytes (flags s)) (both : Bytes (pair s)) where
+module _ (s : Controller) (fits : Bytes (flags s)) (both : Bytes (others s)) where
   -- the last four flags
   abbrev service : List ℕ
   service = s .«in_service» ∷ s .serving ∷ s .«latch_full» ∷ s .latch ∷ []
@@ -114,10 +114,10 @@ module _ (s : Controller) (fits : Bytes (flags s)) (both : Bytes (pair s)) where
   abbrev last : Bytes service
   last = fits .1 .1 .1 .1
 
-  fields-told : (ms : List ℕ) → Clear (flags s) (fourMasks ms) → pairTest s ≡ true → s .«in_service» ≤ 1 → s .serving ≤ 3 → s .«latch_full» ≤ 1 → Fields s
+  fields-told : (ms : List ℕ) → Clear (flags s) (fourMasks ms) → otherTest s ≡ true → s .«in_service» ≤ 1 → s .serving ≤ 3 → s .«latch_full» ≤ 1 → Fields s
   unfolding joined
   fields-told ms c e i n f =
-      let p = clear (pair s) pairMasks both pair-bytes (eqb-true _ _ e) in
+      let p = clear (others s) otherMasks both other-bytes (eqb-true _ _ e) in
       record {
         tc = to15 _ (fits .0) .told (c .0);
         request = to15 _ (fits .1 .0) .told (c .1 .0);
@@ -128,6 +128,7 @@ module _ (s : Controller) (fits : Bytes (flags s)) (both : Bytes (pair s)) where
         latchFull = f;
         lowest = to3 _ (both .0) .told (p .0);
         serving = n;
+        edition = to1 _ (both .1 .1 .0) .told (p .1 .1 .0);
       }
 
   module _ (f : Fields s) where
@@ -135,16 +136,16 @@ module _ (s : Controller) (fits : Bytes (flags s)) (both : Bytes (pair s)) where
     fields-clear ms c =
         (to15 _ (fits .0) .holds (f .tc), (to15 _ (fits .1 .0) .holds (f .request), (to15 _ (fits .1 .1 .0) .holds (f .mask), (to15 _ (fits .1 .1 .1 .0) .holds (f .pins), c))))
 
-    pair-clear : pairTest s ≡ true
+    other-clear : otherTest s ≡ true
     unfolding joined
-    pair-clear = eq-eqb _ _ (cleared (pair s) pairMasks both pair-bytes (to3 _ (both .0) .holds (f .lowest), (to1 _ (both .1 .0) .holds (f .flipFlop), tt)))
+    other-clear = eq-eqb _ _ (cleared (others s) otherMasks both other-bytes (to3 _ (both .0) .holds (f .lowest), (to1 _ (both .1 .0) .holds (f .flipFlop), (to1 _ (both .1 .1 .0) .holds (f .edition), (and-zero-r (s .temporary), tt)))))
 
   module _ (m : modesValid s ≡ true) where
     pub idle-told : idleTest s ≡ true → valid s ≡ true
     unfolding joined
     idle-told e =
-        let p : pairTest s ≡ true = and-right (idleFlags s) (pairTest s) e in
-        let c = clear (flags s) (fourMasks idleMasks) fits idle-bytes (eqb-true _ _ (and-left (idleFlags s) (pairTest s) e)) in
+        let p : otherTest s ≡ true = and-right (idleFlags s) (otherTest s) e in
+        let c = clear (flags s) (fourMasks idleMasks) fits idle-bytes (eqb-true _ _ (and-left (idleFlags s) (otherTest s) e)) in
         let i : s .«in_service» ≤ 0 = to0 _ (last .0) .told (c .1 .1 .1 .1 .0) in
         let n : s .serving ≤ 0 = to0 _ (last .1 .0) .told (c .1 .1 .1 .1 .1 .0) in
         let f : s .«latch_full» ≤ 0 = to0 _ (last .1 .1 .0) .told (c .1 .1 .1 .1 .1 .1 .0) in
@@ -161,7 +162,7 @@ module _ (s : Controller) (fits : Bytes (flags s)) (both : Bytes (pair s)) where
     idle-holds r i =
         let y = r .rest i in
         let c : Clear service idleMasks = (to0 _ (last .0) .holds (omega arith), (to0 _ (last .1 .0) .holds (omega (arith, y .0)), (to0 _ (last .1 .1 .0) .holds (omega (arith, y .1)), (to0 _ (last .1 .1 .1 .0) .holds (omega (arith, r .latch (y .1))), tt)))) in
-        simp (eq-eqb _ _ (cleared (flags s) (fourMasks idleMasks) fits idle-bytes (fields-clear (r .fields) idleMasks c)), pair-clear (r .fields))
+        simp (eq-eqb _ _ (cleared (flags s) (fourMasks idleMasks) fits idle-bytes (fields-clear (r .fields) idleMasks c)), other-clear (r .fields))
 
     -- a latch that is full, or empty and zero
     latch-told : (f l : ℕ) → eqb f 1 || eqb l 0 ≡ true → f ≡ 0 → l ≡ 0
@@ -173,10 +174,10 @@ module _ (s : Controller) (fits : Bytes (flags s)) (both : Bytes (pair s)) where
         let a = and-left (openFields s && eqb (s .«in_service») 1) (latchTest s) e in
         let b = and-left (openFields s) (eqb (s .«in_service») 1) a in
         let i : s .«in_service» ≡ 1 = eqb-true _ _ (and-right (openFields s) (eqb (s .«in_service») 1) a) in
-        let c = clear (flags s) (fourMasks openMasks) fits open-bytes (eqb-true _ _ (and-left (openFlags s) (pairTest s) b)) in
+        let c = clear (flags s) (fourMasks openMasks) fits open-bytes (eqb-true _ _ (and-left (openFlags s) (otherTest s) b)) in
         of-ranges s (record {
           mode = modes-of s m;
-          fields = fields-told openMasks c (and-right (openFlags s) (pairTest s) b) (omega arith) (to3 _ (last .1 .0) .told (c .1 .1 .1 .1 .1 .0)) (to1 _ (last .1 .1 .0) .told (c .1 .1 .1 .1 .1 .1 .0));
+          fields = fields-told openMasks c (and-right (openFlags s) (otherTest s) b) (omega arith) (to3 _ (last .1 .0) .told (c .1 .1 .1 .1 .1 .0)) (to1 _ (last .1 .1 .0) .told (c .1 .1 .1 .1 .1 .1 .0));
           rest = λ z. absurd (omega arith);
           latch = latch-told _ _ (and-right (openFields s && eqb (s .«in_service») 1) (latchTest s) e);
         })
@@ -191,7 +192,7 @@ module _ (s : Controller) (fits : Bytes (flags s)) (both : Bytes (pair s)) where
     open-holds r i =
         let f = r .fields in
         let c : Clear service openMasks = (to1 _ (last .0) .holds (f .inService), (to3 _ (last .1 .0) .holds (f .serving), (to1 _ (last .1 .1 .0) .holds (f .latchFull), (and-zero-r (s .latch), tt)))) in
-        simp (eq-eqb _ _ (cleared (flags s) (fourMasks openMasks) fits open-bytes (fields-clear f openMasks c)), pair-clear f, eq-eqb _ _ i) (latch-holds _ _ (f .latchFull) (r .latch))
+        simp (eq-eqb _ _ (cleared (flags s) (fourMasks openMasks) fits open-bytes (fields-clear f openMasks c)), other-clear f, eq-eqb _ _ i) (latch-holds _ _ (f .latchFull) (r .latch))
 
     -- a state that isn't idle and in its ranges is in them where it is in service so
     pub open-is : idleTest s ≡ false → openTest s ≡ valid s

@@ -20,6 +20,7 @@ pub record Fields (s : Controller) : Type 0 where
   pub latchFull : s .«latch_full» ≤ 1
   pub lowest : s .lowest ≤ 3
   pub serving : s .serving ≤ 3
+  pub edition : s .edition ≤ 1
 
 -- all ranges of a state
 pub record Ranges (s : Controller) : Type 0 where
@@ -47,6 +48,7 @@ fields-of s e =
     let f6 = both _ _ (f5 .right) in
     let f7 = both _ _ (f6 .right) in
     let f8 = both _ _ (f7 .right) in
+    let f9 = both _ _ (f8 .right) in
     record {
       tc = leb-true _ _ (f1 .left);
       request = leb-true _ _ (f2 .left);
@@ -56,14 +58,15 @@ fields-of s e =
       inService = leb-true _ _ (f6 .left);
       latchFull = leb-true _ _ (f7 .left);
       lowest = leb-true _ _ (f8 .left);
-      serving = leb-true _ _ (f8 .right);
+      serving = leb-true _ _ (f9 .left);
+      edition = leb-true _ _ (f9 .right);
     }
 
 of-fields : (s : Controller) → Fields s → fieldsValid s ≡ true
 unfolding fieldsValid
 of-fields s f =
     both-hold (le-leb _ _ (f .tc)) (both-hold (le-leb _ _ (f .request)) (both-hold (le-leb _ _ (f .mask)) (both-hold (le-leb _ _ (f .pins))
-    (both-hold (le-leb _ _ (f .flipFlop)) (both-hold (le-leb _ _ (f .inService)) (both-hold (le-leb _ _ (f .latchFull)) (both-hold (le-leb _ _ (f .lowest)) (le-leb _ _ (f .serving)))))))))
+    (both-hold (le-leb _ _ (f .flipFlop)) (both-hold (le-leb _ _ (f .inService)) (both-hold (le-leb _ _ (f .latchFull)) (both-hold (le-leb _ _ (f .lowest)) (both-hold (le-leb _ _ (f .serving)) (le-leb _ _ (f .edition))))))))))
 
 pub modes-of : (s : Controller) → modesValid s ≡ true → (n : ℕ) → n < 4 → modeValid (channel s n .mode) ≡ true
 unfolding modesValid

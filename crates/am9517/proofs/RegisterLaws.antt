@@ -4,7 +4,7 @@ use mathlib.Core.Path.{_≡_, refl}
 use mathlib.Core.Bool.{Bool, true, false, not, _&&_}
 use native.Mathlib.Omega.{arith}
 use lib.Dec.{ltb, leb, eqb}
-use borrow.Author.Tests.{lt-ltb, ltb-false, leb-false, ne-eqb, eqb-false}
+use borrow.Author.Tests.{lt-ltb, ltb-false, leb-false, ne-eqb}
 use Rattle.words.specs.Grounds.{first}
 use Rattle.am9517.specs.Refusals.{refusal, writeGrounds, readGrounds}
 use Rattle.am9517.specs.Registers.{portWritten, afterWrite, portRead, value, turnedOver, afterRead}
@@ -12,12 +12,10 @@ use Rattle.am9517.specs.declared.Controller.{Controller}
 use Rattle.words.proofs.ChoiceLaws.{when-hit, never}
 use Rattle.words.proofs.GroundLaws.{passed}
 
--- an accepted write is of registers 0 to 15 but E
-pub write-register : (s : Controller) (r b : ℕ) → refusal (writeGrounds s r b) ≡ 0 → (r ≤ 15) × (r ≡ 0xE → ⊥)
+-- an accepted write is of registers 0 to 15
+pub write-register : (s : Controller) (r b : ℕ) → refusal (writeGrounds s r b) ≡ 0 → r ≤ 15
 unfolding refusal first
-write-register s r b e =
-    let over = passed _ _ _ (omega arith) (passed _ _ _ (omega arith) e .next) in
-    (ltb-false _ _ (over .test), eqb-false _ _ (passed _ _ _ (omega arith) (passed _ _ _ (omega arith) (over .next) .next) .test))
+write-register s r b e = ltb-false _ _ (passed _ _ _ (omega arith) (passed _ _ _ (omega arith) e .next) .test)
 
 pub less : (r k : ℕ) → r ≤ k + 1 → (r ≡ k + 1 → ⊥) → r ≤ k
 less r k h n = omega arith

@@ -12,11 +12,11 @@ joined (b ∷ bs) = joined bs * 256 + b
 abbrev pub flags : Controller → List ℕ
 flags s = s .tc ∷ s .request ∷ s .mask ∷ s .pins ∷ s .«in_service» ∷ s .serving ∷ s .«latch_full» ∷ s .latch ∷ []
 
-abbrev pub pair : Controller → List ℕ
-pair s = s .lowest ∷ s .«flip_flop» ∷ []
+abbrev pub others : Controller → List ℕ
+others s = s .lowest ∷ s .«flip_flop» ∷ s .edition ∷ s .temporary ∷ []
 
 abbrev pub flagsOf : Controller → ℕ
 flagsOf s = joined (flags s)
 
-abbrev pub pairOf : Controller → ℕ
-pairOf s = joined (pair s)
+abbrev pub othersOf : Controller → ℕ
+othersOf s = joined (others s)

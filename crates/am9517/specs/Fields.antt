@@ -10,9 +10,9 @@ use Rattle.am9517.specs.declared.Controller.{Controller}
 
 -- "Beside them: command, four TC bits, four request bits, four mask bits, temporary byte, first/last flip-flop, four pin levels,
 -- the lowest channel, idle or in service, the serving channel, and the upper address byte last latched in this service, if any":
--- LatchFull says whether there is one
+-- LatchFull says whether there is one. Document 02, A2: the edition, "chosen when a state is made and kept in it through reset"
 pub data Field : Type 0 where
-  Command Tc Request Mask Temporary FlipFlop Pins Lowest InService Serving LatchFull Latch : Field
+  Command Tc Request Mask Temporary FlipFlop Pins Lowest InService Serving LatchFull Latch Edition : Field
 
 -- tells two fields apart: help for `but`, no rule
 abbrev pub tag : Field → ℕ
@@ -28,6 +28,7 @@ tag InService = 8
 tag Serving = 9
 tag LatchFull = 10
 tag Latch = 11
+tag Edition = 12
 
 -- the field's value
 abbrev pub field : Controller → Field → ℕ
@@ -43,6 +44,7 @@ field s InService = s .«in_service»
 field s Serving = s .serving
 field s LatchFull = s .«latch_full»
 field s Latch = s .latch
+field s Edition = s .edition
 
 -- the state of these channels and fields: "It has four channels", by the type [Channel; 4] of src/lib.rt
 abbrev pub make : List Channel → (Field → ℕ) → Controller
@@ -61,6 +63,7 @@ make cs f =
       serving = f Serving;
       «latch_full» = f LatchFull;
       latch = f Latch;
+      edition = f Edition;
     }
 
 -- fields f with g as v

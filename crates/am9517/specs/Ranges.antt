@@ -15,7 +15,7 @@ unfoldable pub modesValid : Controller → Bool
 modesValid s =
     modeValid (channel s 0 .mode) and modeValid (channel s 1 .mode) and modeValid (channel s 2 .mode) and modeValid (channel s 3 .mode)
 
--- "37, 38, 39, 42 at most 15; 41, 44, 46 at most 1; 43, 45 at most 3"
+-- "37, 38, 39, 42 at most 15; 41, 44, 46 at most 1; 43, 45 at most 3"; and the edition, which has no place there, at most 1: it is one of two
 unfoldable pub fieldsValid : Controller → Bool
 fieldsValid s =
     leb (s .tc) 15
@@ -27,6 +27,7 @@ fieldsValid s =
     and leb (s .«latch_full») 1
     and leb (s .lowest) 3
     and leb (s .serving) 3
+    and leb (s .edition) 1
 
 -- "idle means 45, 46, 47 zero; 46 zero means 47 zero"
 unfoldable pub serviceValid : Controller → Bool

@@ -4,6 +4,7 @@ use mathlib.Core.Bool.{Bool, not, _&&_}
 use mathlib.Core.List.{List, [], _∷_}
 use lib.Dec.{ltb, leb, eqb}
 use Rattle.words.specs.Grounds.{Ground, _if_, first}
+use Rattle.am9517.specs.Editions.{isIntel}
 use Rattle.am9517.specs.Modes.{modeRefused}
 use Rattle.am9517.specs.Ranges.{valid}
 use Rattle.am9517.specs.Serving.{picked}
@@ -30,9 +31,13 @@ busy s = not (idle s)
 abbrev pub unreadable : ℕ → Bool
 unreadable r = leb 9 r && not (eqb r 0xD)
 
+-- "or write of E"; document 02, A2, of the Intel edition: "Refusal 4 no longer covers that write there."
+abbrev pub unwritable : ℕ → ℕ → Bool
+unwritable edition r = eqb r 0xE && not (isIntel edition)
+
 abbrev pub writeGrounds : Controller → ℕ → ℕ → List (Ground ℕ)
 writeGrounds s r b =
-    1 if not (valid s) ∷ 2 if ltb 15 r ∷ 3 if busy s ∷ 4 if eqb r 0xE ∷ 5 if (eqb r 0xB && modeRefused b) ∷ []
+    1 if not (valid s) ∷ 2 if ltb 15 r ∷ 3 if busy s ∷ 4 if unwritable (s .edition) r ∷ 5 if (eqb r 0xB && modeRefused b) ∷ []
 
 abbrev pub readGrounds : Controller → ℕ → List (Ground ℕ)
 readGrounds s r = 1 if not (valid s) ∷ 2 if ltb 15 r ∷ 3 if busy s ∷ 4 if unreadable r ∷ []

@@ -67,7 +67,8 @@ modeWritten s b = withChannel s (b % 4) (withMode (channel s (b % 4)) (b - b % 4
 
 -- what an accepted write of b to register r stores. "8 write: command. .. 9 write: request bit of channel (bits 1-0) becomes bit 2.
 -- A write: the same for the mask bit. F write: bits 3-0 become the mask. B write: mode of channel (bits 1-0) .. C write clears the
--- flip-flop. .. D write: master clear, as reset."
+-- flip-flop. .. D write: master clear, as reset." Document 02, A2: "There, a write of register E clears all four mask bits", whatever the byte;
+-- elsewhere it is refused
 unfoldable pub afterWrite : Controller → ℕ → ℕ → Controller
 afterWrite s r b =
     first (
@@ -78,6 +79,7 @@ afterWrite s r b =
     ∷ modeWritten s b if eqb r 0xB
     ∷ put s FlipFlop 0 if eqb r 0xC
     ∷ cleared s if eqb r 0xD
+    ∷ put s Mask 0 if eqb r 0xE
     ∷ put s Mask (b % 16) if eqb r 0xF
     ∷ []) s
 

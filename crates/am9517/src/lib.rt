@@ -1,4 +1,5 @@
 // One Am9517A: its state, and the operations on it. Each takes the state by value and hands the next one back.
+use crate::editions::edition_number;
 use crate::state::answered;
 use words::bits::is_set;
 use words::bits::with_bit;
@@ -6,10 +7,12 @@ use words::bytes::byte_of;
 use words::choice::when;
 use words::choice::when_word;
 ghost use mathlib.Core.Path.{_≡_};
+ghost use Rattle.am9517.specs.Editions.{numberOf};
 ghost use Rattle.am9517.specs.State.{fresh};
 ghost use Rattle.am9517.specs.Refusals.{refusal, writeGrounds, readGrounds, pinsGrounds, resetGrounds, grantGrounds};
 ghost use Rattle.am9517.specs.Answers.{refusalNumber, writeOf, readOf, pinsOf, resetOf, grantOf};
 
+pub mod editions;
 pub mod modes;
 mod ranges;
 mod refusals;
@@ -30,7 +33,8 @@ pub struct Channel {
 }
 
 // Every field is a byte, so that a state that breaks a range can be given, and is refused by 1. First come eight fields that
-// ranges.rt asks as one number (the last four are what the end of a service clears); the other four stand as the loops of rounds are cheapest.
+// ranges.rt asks as one number (the last four are what the end of a service clears), then four that it asks as another; of the orders
+// tried this one is the cheapest for the loops of rounds.
 #[repr(C)]
 pub struct Controller {
     pub channels: [Channel; 4],
@@ -42,10 +46,17 @@ pub struct Controller {
     pub serving: u8,
     pub latch_full: u8,
     pub latch: u8,
-    pub flip_flop: u8,
     pub lowest: u8,
+    pub flip_flop: u8,
+    pub edition: u8,
     pub temporary: u8,
     pub command: u8,
+}
+
+// Which maker's data sheet a controller follows; its number is the state's field `edition`.
+pub enum Edition {
+    Am9517A,
+    Intel8237A,
 }
 
 // What an operation says: done; done, with the byte read or the channel granted; or the number of its refusal.
@@ -62,8 +73,8 @@ pub struct Outcome {
 }
 
 impl Controller {
-    pub fn fresh() -> Controller
-        ensures { λ r. ⌜ r ≡ fresh ⌝ }
+    pub fn fresh(edition: Edition) -> Controller
+        ensures { λ r. ⌜ r ≡ fresh (numberOf edition) ⌝ }
     {
         let blank = Channel {
             base_address: 0,
@@ -86,6 +97,7 @@ impl Controller {
             serving: 0,
             latch_full: 0,
             latch: 0,
+            edition: edition_number(edition),
         }
     }
 
@@ -107,6 +119,7 @@ impl Controller {
                 0xB => next.channels[n] = next.channels[n].with_mode(byte - byte % 4),
                 0xC => next.flip_flop = 0,
                 0xD => next = next.cleared(),
+                0xE => next.mask = 0,
                 0xF => next.mask = byte % 16,
                 _ => {
                     let high = next.flip_flop == 1;

@@ -4,7 +4,7 @@ use crate::modes::mode_refused;
 ghost use mathlib.Core.Path.{_≡_};
 ghost use mathlib.Core.List.{[], _∷_};
 ghost use Rattle.am9517.specs.Ranges.{modesValid, valid};
-ghost use Rattle.am9517.specs.ClosedMasks.{joined, flagsOf, pairOf};
+ghost use Rattle.am9517.specs.ClosedMasks.{joined, flagsOf, othersOf};
 
 // Four bytes as one number.
 fn quad(first: u8, second: u8, third: u8, fourth: u8) -> u64
@@ -36,11 +36,11 @@ impl Controller {
         low + 0x100000000 * high
     }
 
-    // Two more as one number.
-    fn pair(self) -> u16
-        ensures { λ r. ⌜ r ≡ pairOf self ⌝ }
+    // Four more likewise: three that have ranges, and the one that lies behind them.
+    fn others(self) -> u64
+        ensures { λ r. ⌜ r ≡ othersOf self ⌝ }
     {
-        self.lowest as u16 + 0x100 * (self.flip_flop as u16)
+        quad(self.lowest, self.flip_flop, self.edition, self.temporary)
     }
 
     // No range is broken. A mask has the bits that must be zero: idle, then in service.
@@ -51,11 +51,11 @@ impl Controller {
             return false;
         }
         let flags = self.flags();
-        let pair = self.pair() & 0xfefc == 0;
-        if (flags & 0xffff_ffff_f0f0_f0f0 == 0) & pair {
+        let others = self.others() & 0x00fe_fefc == 0;
+        if (flags & 0xffff_ffff_f0f0_f0f0 == 0) & others {
             return true;
         }
-        let fields = (flags & 0x00fe_fcfe_f0f0_f0f0 == 0) & pair;
+        let fields = (flags & 0x00fe_fcfe_f0f0_f0f0 == 0) & others;
         fields & (self.in_service == 1) & ((self.latch_full == 1) | (self.latch == 0))
     }
 }

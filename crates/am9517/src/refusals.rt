@@ -1,5 +1,6 @@
 // The number of the first ground that holds, 0 where none does.
 use crate::Controller;
+use crate::editions::is_intel;
 use crate::modes::mode_refused;
 use words::choice::when;
 ghost use mathlib.Core.Path.{_≡_};
@@ -11,7 +12,7 @@ impl Controller {
         ensures { λ r. ⌜ r ≡ refusal (writeGrounds self reg byte) ⌝ }
     {
         let no = when((reg == 0xB) & mode_refused(byte), 5, 0);
-        let no = when(reg == 0xE, 4, no);
+        let no = when((reg == 0xE) & !is_intel(self.edition), 4, no);
         if !self.valid() {
             return 1;
         }

@@ -80,7 +80,7 @@ module _ (c : Controller) (ic : memoryToMemory c ≡ true) (byte n eop : ℕ) wh
   met = eqb n eop
 
   abbrev leg : Copied
-  leg = copyLegOf from to (bitsOf c) hold n eop
+  leg = copyLegOf (c .edition) from to (bitsOf c) hold n eop
 
   abbrev sent : List Channel
   sent = set (c .channels) 0 (sourceAfter hold from n)
@@ -89,7 +89,7 @@ module _ (c : Controller) (ic : memoryToMemory c ≡ true) (byte n eop : ℕ) wh
   cleared = record { tc = c .tc; request = withBit (c .request) 0 false; mask = c .mask }
 
   abbrev over : List Channel → ℕ → ℕ → Controller
-  over l mode k = put (put (put (put (withBits (make l (field (put c Temporary byte))) (bitsAfter 1 mode cleared tc met)) InService 0) Serving k) LatchFull 0) Latch 0
+  over l mode k = put (put (put (put (withBits (make l (field (put c Temporary byte))) (bitsAfter (c .edition) 1 mode cleared tc met)) InService 0) Serving k) LatchFull 0) Latch 0
 
   to-mode : getD (set sent 1 (currentAfter to n)) 1 blank .mode ≡ to .mode
   to-mode = modes-kept sent 1 1 (currentAfter to n) (current-after-mode to n ∙ sym (modes-kept (c .channels) 0 1 (sourceAfter hold from n) (source-mode hold from n))) ∙ modes-kept (c .channels) 0 1 (sourceAfter hold from n) (source-mode hold from n)
@@ -120,7 +120,7 @@ module _ (c : Controller) (m d r : List ℕ) (limit eop : ℕ) (ic : memoryToMem
   -- the world after n transfers
   abbrev led : ℕ → Bool → World
   led n stays =
-      world (afterCopy c (copyLegOf (channel c 0) (channel c 1) (bitsOf c) (addressHold (c .command)) n eop) (lastByte (routeIn c) m n) stays) (carriedBy (routeIn c) m n) r
+      world (afterCopy c (copyLegOf (c .edition) (channel c 0) (channel c 1) (bitsOf c) (addressHold (c .command)) n eop) (lastByte (routeIn c) m n) stays) (carriedBy (routeIn c) m n) r
       (counts n 0 0 (n * copyPace))
 
   pub record CopyLed (s : Span) : Type 0 where
@@ -174,7 +174,7 @@ module _ (c : Controller) (m d r : List ℕ) (limit eop : ℕ) (ic : memoryToMem
 
   -- what the run answers, told by the parts of the leg
   pub copy-answer : (s : Span) → s ≡ copySpan count limit eop → 0 < s .transfers → (source : Channel) → source ≡ channel c 0 → (hold : Bool) → hold ≡ addressHold (c .command)
-      → (b : Bits) → b ≡ bitsOf c → (l : Copied) → l ≡ copyLegOf source (channel c 1) b hold (s .transfers) eop
+      → (b : Bits) → b ≡ bitsOf c → (l : Copied) → l ≡ copyLegOf (c .edition) source (channel c 1) b hold (s .transfers) eop
       → (byte : ℕ) → byte ≡ lastByte (routeOf hold source (channel c 1)) m (s .transfers) → (m' : List ℕ) → m' ≡ carriedBy (routeOf hold source (channel c 1)) m (s .transfers)
       → (stays : Bool) → stays ≡ staysOpen (s .why) → (x : Controller) → x ≡ afterCopy c l byte stays
       → (k₀ : Counts) → k₀ ≡ none → (k : Counts) → k ≡ plus k₀ (counts (s .transfers) 0 0 (s .transfers * copyPace))

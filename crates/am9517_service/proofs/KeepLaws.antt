@@ -21,7 +21,7 @@ use Rattle.am9517_service.specs.Stops.{dropped, short, stops}
 use Rattle.am9517_service.specs.States.{pace, copyPace, needsS1, cost}
 use Rattle.am9517_service.specs.Transfer.{writes, reads, moved}
 use Rattle.am9517_service.specs.Copy.{sourceNext, copied}
-use Rattle.am9517_service.specs.Ends.{bitsOf, withBits, bitsAfter, channelAfter, finished, afterTcOrEop, single, reachesTc, ends}
+use Rattle.am9517_service.specs.Ends.{bitsOf, withBits, setsTcBit, bitsAfter, channelAfter, finished, afterTcOrEop, single, reachesTc, ends}
 use Rattle.am9517_service.specs.Run.{transferred, runOf}
 use Rattle.words.proofs.BitLaws.{four-kept}
 use Rattle.words.proofs.ChoiceLaws.{when-both, when-each, when-le, never}
@@ -165,7 +165,7 @@ moved-sound l w d p =
     let c = w .controller in
     let r = p .ranges in
     record {
-      ranges = kept-open c r _ (record { mode = λ k. modes-kept (c .channels) (c .serving) k _ refl; pins = refl; flipFlop = refl; lowest = refl; tc = r .fields .tc; request = r .fields .request; mask = r .fields .mask }) (p .busy) (omega arith) (λ e. absurd (omega arith)) (r .fields .serving);
+      ranges = kept-open c r _ (record { mode = λ k. modes-kept (c .channels) (c .serving) k _ refl; pins = refl; flipFlop = refl; lowest = refl; edition = refl; tc = r .fields .tc; request = r .fields .request; mask = r .fields .mask }) (p .busy) (omega arith) (λ e. absurd (omega arith)) (r .fields .serving);
       busy = p .busy;
       lowest = p .lowest;
     }
@@ -176,7 +176,7 @@ copied-sound l w p =
     let c = w .controller in
     let r = p .ranges in
     record {
-      ranges = kept-open c r _ (record { mode = λ k. modes-kept (set (c .channels) 0 (sourceNext (addressHold (c .command)) (channel c 0))) 1 k _ (sym (modes-kept (c .channels) 0 1 (sourceNext (addressHold (c .command)) (channel c 0)) (source-next-mode (addressHold (c .command)) (channel c 0)))) ∙ modes-kept (c .channels) 0 k (sourceNext (addressHold (c .command)) (channel c 0)) (source-next-mode (addressHold (c .command)) (channel c 0)); pins = refl; flipFlop = refl; lowest = refl; tc = r .fields .tc; request = r .fields .request; mask = r .fields .mask }) (p .busy) (r .fields .latchFull) (r .latch) (r .fields .serving);
+      ranges = kept-open c r _ (record { mode = λ k. modes-kept (set (c .channels) 0 (sourceNext (addressHold (c .command)) (channel c 0))) 1 k _ (sym (modes-kept (c .channels) 0 1 (sourceNext (addressHold (c .command)) (channel c 0)) (source-next-mode (addressHold (c .command)) (channel c 0)))) ∙ modes-kept (c .channels) 0 k (sourceNext (addressHold (c .command)) (channel c 0)) (source-next-mode (addressHold (c .command)) (channel c 0)); pins = refl; flipFlop = refl; lowest = refl; edition = refl; tc = r .fields .tc; request = r .fields .request; mask = r .fields .mask }) (p .busy) (r .fields .latchFull) (r .latch) (r .fields .serving);
       busy = p .busy;
       lowest = p .lowest;
     }
@@ -190,13 +190,14 @@ unfolding finished
 finished-ranges c n tc eop h r =
     let ch = channel c n in
     let f = r .fields in
-    kept-ended c r (withBits (withChannel c n (channelAfter ch)) (bitsAfter n (ch .mode) (bitsOf c) tc eop))
+    kept-ended c r (withBits (withChannel c n (channelAfter ch)) (bitsAfter (c .edition) n (ch .mode) (bitsOf c) tc eop))
     (record {
       mode = λ k. modes-kept (c .channels) n k _ refl;
       pins = refl;
       flipFlop = refl;
       lowest = refl;
-      tc = when-both (λ (x : ℕ). x ≤ 15) tc (four-kept (c .tc) n true (f .tc) h) (f .tc);
+      edition = refl;
+      tc = when-both (λ (x : ℕ). x ≤ 15) (setsTcBit (c .edition) tc eop) (four-kept (c .tc) n true (f .tc) h) (f .tc);
       request = four-kept (c .request) n false (f .request) h;
       mask = when-both (λ (x : ℕ). x ≤ 15) (autoinitialize (ch .mode)) (f .mask) (four-kept (c .mask) n true (f .mask) h);
     })
@@ -216,7 +217,7 @@ afterTcOrEop-left l w tc eop p =
     let r = p .ranges in
     let q = put c Request (withBit (c .request) 0 false) in
     let f = r .fields in
-    let rq : Ranges q = kept-open c r q (record { mode = λ k. refl; pins = refl; flipFlop = refl; lowest = refl; tc = f .tc; request = four-kept (c .request) 0 false (f .request) (omega arith); mask = f .mask }) (p .busy) (f .latchFull) (r .latch) (f .serving) in
+    let rq : Ranges q = kept-open c r q (record { mode = λ k. refl; pins = refl; flipFlop = refl; lowest = refl; edition = refl; tc = f .tc; request = four-kept (c .request) 0 false (f .request) (omega arith); mask = f .mask }) (p .busy) (f .latchFull) (r .latch) (f .serving) in
     when-both (λ (x : Controller). Left l (stop (withController w x) Ended)) (memoryToMemory c)
     (record { ranges = finished-ranges q 1 tc eop (omega arith) rq; idle = λ e. finished-idle q 1 tc eop; lowest = finished-lowest q 1 tc eop ∙ p .lowest })
     (record { ranges = finished-ranges c (c .serving) tc eop (omega (arith, f .serving)) r; idle = λ e. finished-idle c (c .serving) tc eop; lowest = finished-lowest c (c .serving) tc eop ∙ p .lowest })

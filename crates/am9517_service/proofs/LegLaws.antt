@@ -63,10 +63,10 @@ module _ (c : Controller) (n : ℕ) (first : Bool) (p eop : ℕ) where
   met = eqb n eop
 
   abbrev leg : Leg
-  leg = legOf i ch (bitsOf c) first p n eop
+  leg = legOf (c .edition) i ch (bitsOf c) first p n eop
 
   abbrev over : List Channel → ℕ → Controller
-  over l mode = ended (withBits (make l (field c)) (bitsAfter i mode (bitsOf c) tc met))
+  over l mode = ended (withBits (make l (field c)) (bitsAfter (c .edition) i mode (bitsOf c) tc met))
 
   finished-is : finished (movedOn c n) i tc met ≡ over (set (c .channels) i (channelAfter far)) (ch .mode)
   unfolding finished
@@ -110,7 +110,7 @@ module _ (c : Controller) (m d r : List ℕ) (limit eop : ℕ) (nc : memoryToMem
   -- the world after n transfers
   abbrev led : ℕ → Bool → World
   led n stays =
-      world (afterLeg c (c .serving) (legOf (c .serving) chan (bitsOf c) s1 (pace (c .command)) n eop) stays) (stored chan d m n) (loaded chan m r n)
+      world (afterLeg c (c .serving) (legOf (c .edition) (c .serving) chan (bitsOf c) s1 (pace (c .command)) n eop) stays) (stored chan d m n) (loaded chan m r n)
       (countsOf chan n (statesOf chan (pace (c .command)) s1 n))
 
   pub record Led (s : Span) : Type 0 where
@@ -209,7 +209,7 @@ module _ (c : Controller) (m d r : List ℕ) (limit eop : ℕ) (nc : memoryToMem
     leg-stocked size = rw serves (leg-led .stocked size)
 
     -- what the run answers, told by the parts of the leg
-    pub leg-answer : 0 < s .transfers → (l : Leg) → l ≡ legOf i ch (bitsOf c) (needsS1 c (ch .address)) (pace (c .command)) (s .transfers) eop
+    pub leg-answer : 0 < s .transfers → (l : Leg) → l ≡ legOf (c .edition) i ch (bitsOf c) (needsS1 c (ch .address)) (pace (c .command)) (s .transfers) eop
         → (m' : List ℕ) → m' ≡ stored ch d m (s .transfers) → (r' : List ℕ) → r' ≡ loaded ch m r (s .transfers)
         → (stays : Bool) → stays ≡ staysOpen (s .why) → (x : Controller) → x ≡ afterLeg c i l stays
         → (k₀ : Counts) → k₀ ≡ none → (k : Counts) → k ≡ plus k₀ (countsOf ch (s .transfers) (l .states))

@@ -454,14 +454,14 @@ module _ (k : ℕ) (d : List ℕ) (size : ℕ) (o : Close) (f : Facts) (s : Cont
         (plus-none all ∙ ap (λ (x : ℕ). withAlone n x (f .pace)) (sym same-alone))
 
     -- it made some, and its channel, bits and counts are these
-    module _ (some : 0 < l .transfers) (b : Bits) (eb : b ≡ bitsOf s) (u : Turn) (eu : u ≡ turnOf (f .pace) q there (l .transfers) b n) (m' r' : List ℕ)
+    module _ (some : 0 < l .transfers) (b : Bits) (eb : b ≡ bitsOf s) (u : Turn) (eu : u ≡ turnOf (s .edition) (f .pace) q there (l .transfers) b n) (m' r' : List ℕ)
         (em : m' ≡ stored there (drop (n .used) d) m (l .transfers)) (er : r' ≡ take (n .written) r ++ loaded there m (drop (n .written) r) (l .transfers)) where
       abbrev leg : Leg
-      leg = legOf q ch (bitsOf s) true (pace (s .command)) (l .transfers) 0
+      leg = legOf (s .edition) q ch (bitsOf s) true (pace (s .command)) (l .transfers) 0
 
-      turn-is : u ≡ turnOf (pace (s .command)) q ch (l .transfers) (bitsOf s) n
+      turn-is : u ≡ turnOf (s .edition) (pace (s .command)) q ch (l .transfers) (bitsOf s) n
       turn-is =
-          eu ∙ ap (λ (p : ℕ). turnOf p q there (l .transfers) b n) (sym pace-is) ∙ ap (λ (x : Channel). turnOf (pace (s .command)) q x (l .transfers) b n) et ∙ ap (λ (x : Bits). turnOf (pace (s .command)) q ch (l .transfers) x n) eb
+          eu ∙ ap (λ (p : ℕ). turnOf (s .edition) p q there (l .transfers) b n) (sym pace-is) ∙ ap (λ (x : Channel). turnOf (s .edition) (pace (s .command)) q x (l .transfers) b n) et ∙ ap (λ (x : Bits). turnOf (s .edition) (pace (s .command)) q ch (l .transfers) x n) eb
 
       states-is : leg .states ≡ statesOf ch (pace (s .command)) true (l .transfers)
       unfolding legOf
@@ -522,7 +522,7 @@ module _ (k : ℕ) (d : List ℕ) (size : ℕ) (o : Close) (f : Facts) (s : Cont
 
   -- A service of memory-to-memory, up to its end.
   module _ (is-copier : q ≡ f .copier) (source target : Channel) (es : source ≡ ch) (hs : source .address < 65536) (hsc : source .count < 65536) (et : target ≡ channel s 1) (ht : target .address < 65536) (hc : target .count < 65536)
-      (b : Bits) (eb : b ≡ bitsOf s) (u : Copied) (eu : u ≡ copyLegOf source target b (f .hold) (target .count + 1) 0) (byte : ℕ) (ey : byte ≡ lastByte (routeOf (f .hold) source target) m (target .count + 1))
+      (b : Bits) (eb : b ≡ bitsOf s) (u : Copied) (eu : u ≡ copyLegOf (s .edition) source target b (f .hold) (target .count + 1) 0) (byte : ℕ) (ey : byte ≡ lastByte (routeOf (f .hold) source target) m (target .count + 1))
       (m' : List ℕ) (em : m' ≡ carriedBy (routeOf (f .hold) source target) m (target .count + 1)) (n' : Counts) (en : n' ≡ plus n (counts (target .count + 1) 0 0 ((target .count + 1) * copyPace))) where
     copies : (memoryToMemory (granted (resting s i) q) ≡ true) × (q ≡ 0)
     copies = copies-0 s i q f (g .facts) (next-below k d size o f s services n nexts longs i left m r g test) is-copier
@@ -531,7 +531,7 @@ module _ (k : ℕ) (d : List ℕ) (size : ℕ) (o : Close) (f : Facts) (s : Cont
     hold-is = ap (λ (x : Facts). x .hold) (sym (g .facts))
 
     abbrev more-of : Channel → Channel → Bits → Bool → Copied
-    more-of x y z h = copyLegOf x y z h (y .count + 1) 0
+    more-of x y z h = copyLegOf (s .edition) x y z h (y .count + 1) 0
 
     copy-is : more-of ch (channel s 1) (bitsOf s) (addressHold (s .command)) ≡ u
     copy-is =

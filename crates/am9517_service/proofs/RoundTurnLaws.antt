@@ -234,7 +234,7 @@ module _ (s : Controller) (i j : ℕ) (rest : AtRest s) (m d r services : List �
       turn-stood z = next-run ∙ led .stood z ∙ ap (λ (x : Controller). stop (startOf x m space) (l .why)) (stands s i j rest (staysOpen (l .why)))
 
       abbrev leg : Leg
-      leg = legOf j ch (bitsOf s) true (pace (s .command)) (l .transfers) 0
+      leg = legOf (s .edition) j ch (bitsOf s) true (pace (s .command)) (l .transfers) 0
 
       pub turn-led : 0 < l .transfers
           → runNext w d ≡ stop (world (afterLeg c j leg (staysOpen (l .why))) (stored ch bytes m (l .transfers)) (loaded ch m space (l .transfers)) (countsOf ch (l .transfers) (statesOf ch (pace (s .command)) true (l .transfers)))) (l .why)
@@ -287,11 +287,11 @@ module _ (s : Controller) (i j : ℕ) (rest : AtRest s) (m d r services : List �
       last-not : eqb 1 (ch .count + 1) ≡ false
       last-not = ne-eqb _ _ (λ (e : 1 ≡ ch .count + 1). more (omega arith))
 
-      alone-leg : legOf j ch (bitsOf s) true (pace (s .command)) 1 0 .channel ≡ stepped ch
+      alone-leg : legOf (s .edition) j ch (bitsOf s) true (pace (s .command)) 1 0 .channel ≡ stepped ch
       unfolding legOf when
       alone-leg = simp last-not (sym (stepped-first ch))
 
-      alone-bits : legOf j ch (bitsOf s) true (pace (s .command)) 1 0 .bits ≡ bitsOf s
+      alone-bits : legOf (s .edition) j ch (bitsOf s) true (pace (s .command)) 1 0 .bits ≡ bitsOf s
       unfolding legOf when
       alone-bits = simp last-not
 
@@ -303,7 +303,7 @@ module _ (s : Controller) (i j : ℕ) (rest : AtRest s) (m d r services : List �
       turn-alone =
           let f : Channel → Bits → ℕ → Stop = λ x b k. stop (world (resting (withBits (withChannel s j x) b) j) (stored ch bytes m 1) (loaded ch m space 1) (countsOf ch 1 k)) Ended in
           leg-ended nc alone alone-is (omega arith) refl
-          ∙ ap (λ (x : Channel). f x (legOf j ch (bitsOf s) true (pace (s .command)) 1 0 .bits) (statesOf ch (pace (s .command)) true 1)) alone-leg
+          ∙ ap (λ (x : Channel). f x (legOf (s .edition) j ch (bitsOf s) true (pace (s .command)) 1 0 .bits) (statesOf ch (pace (s .command)) true 1)) alone-leg
           ∙ ap (λ (b : Bits). f (stepped ch) b (statesOf ch (pace (s .command)) true 1)) alone-bits
           ∙ ap (f (stepped ch) (bitsOf s)) alone-states
 
@@ -319,7 +319,7 @@ module _ (s : Controller) (i j : ℕ) (rest : AtRest s) (m d r services : List �
       hold = addressHold (s .command)
 
       abbrev copy : Copied
-      copy = copyLegOf ch target (bitsOf s) hold all 0
+      copy = copyLegOf (s .edition) ch target (bitsOf s) hold all 0
 
       abbrev byte : ℕ
       byte = lastByte (routeOf hold ch target) m all
@@ -348,7 +348,7 @@ module _ (s : Controller) (i j : ℕ) (rest : AtRest s) (m d r services : List �
       pub turn-copied : runNext w d ≡ stop (world (resting (withBits (withChannel (withChannel (put s Temporary byte) 0 (copy .source)) 1 (copy .target)) (copy .bits)) j) (carriedBy (routeOf hold ch target) m all) space (counts all 0 0 (all * copyPace))) Ended
       unfolding granted
       turn-copied =
-          let f : Channel → Stop = λ x. stop (world (afterCopy c (copyLegOf x target (bitsOf s) hold all 0) (lastByte (routeOf hold x target) m all) false) (carriedBy (routeOf hold x target) m all) space (counts all 0 0 (all * copyPace))) Ended in
+          let f : Channel → Stop = λ x. stop (world (afterCopy c (copyLegOf (s .edition) x target (bitsOf s) hold all 0) (lastByte (routeOf hold x target) m all) false) (carriedBy (routeOf hold x target) m all) space (counts all 0 0 (all * copyPace))) Ended in
           next-run ∙ copied .some (omega arith)
           ∙ ap f source-there
           ∙ ap (λ (x : Controller). stop (world x (carriedBy (routeOf hold ch target) m all) space (counts all 0 0 (all * copyPace))) Ended) (copy-rests s i j rest zeroth copy byte)

@@ -66,10 +66,10 @@ abbrev pub routeOf : Bool → Channel → Channel → Route
 routeOf hold source target = record { hold = hold; source = source; to = target .address; «to_down» = decrement (target .mode) }
 
 -- what n transfers, at least one, leave of channels 0 and 1 and of the bits, where transfer eop meets EOP
-unfoldable pub copyLegOf : Channel → Channel → Bits → Bool → ℕ → ℕ → Copied
-copyLegOf source target b hold n eop =
+unfoldable pub copyLegOf : ℕ → Channel → Channel → Bits → Bool → ℕ → ℕ → Copied
+copyLegOf edition source target b hold n eop =
     let over = eqb n (target .count + 1) || eqb n eop in
-    let l = legOf 1 target (record { tc = b .tc; request = when over (withBit (b .request) 0 false) (b .request); mask = b .mask }) false copyPace n eop in
+    let l = legOf edition 1 target (record { tc = b .tc; request = when over (withBit (b .request) 0 false) (b .request); mask = b .mask }) false copyPace n eop in
     record { source = sourceAfter hold source n; target = l .channel; bits = l .bits }
 
 -- the byte that n transfers moved last

@@ -48,13 +48,13 @@ abbrev pub loaded : Channel → List ℕ → List ℕ → ℕ → List ℕ
 loaded ch m r n = when (reads ch) (spread (λ (i : ℕ). i) (addressAfter ch) m r n) r
 
 -- what n transfers, at least one, leave of channel i and of the bits, where transfer eop meets EOP
-unfoldable pub legOf : ℕ → Channel → Bits → Bool → ℕ → ℕ → ℕ → Leg
-legOf i ch b first p n eop =
+unfoldable pub legOf : ℕ → ℕ → Channel → Bits → Bool → ℕ → ℕ → ℕ → Leg
+legOf edition i ch b first p n eop =
     let tc = eqb n (ch .count + 1) in
     let met = eqb n eop in
     record {
       channel = when (tc || met) (channelAfter (currentAfter ch n)) (currentAfter ch n);
-      bits = when (tc || met) (bitsAfter i (ch .mode) b tc met) b;
+      bits = when (tc || met) (bitsAfter edition i (ch .mode) b tc met) b;
       latch = highByte (addressAfter ch (n - 1));
       states = statesOf ch p first n;
     }

@@ -38,9 +38,9 @@ unfoldable pub madeAlone : Bool → ℕ → ℕ → ℕ → Bool
 madeAlone may mode bytes space = may && when (isWrite mode) (not (eqb bytes 0)) (when (isRead mode) (not (eqb space 0)) true)
 
 -- a leg of n transfers of the service of channel i that was just granted, on counts so far; a round has no EOP
-abbrev pub turnOf : ℕ → ℕ → Channel → ℕ → Bits → Counts → Turn
-turnOf p i ch n b was =
-    let l = legOf i ch b true p n 0 in
+abbrev pub turnOf : ℕ → ℕ → ℕ → Channel → ℕ → Bits → Counts → Turn
+turnOf edition p i ch n b was =
+    let l = legOf edition i ch b true p n 0 in
     record { channel = l .channel; bits = l .bits; latch = l .latch; counts = plus was (countsOf ch n (l .states)) }
 
 -- the counts with so many transfers made alone, each with S1

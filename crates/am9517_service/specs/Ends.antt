@@ -6,6 +6,7 @@ use lib.Dec.{eqb}
 use Rattle.words.specs.Choice.{when}
 use Rattle.words.specs.Grounds.{Ground, _if_}
 use Rattle.words.specs.Bits.{withBit}
+use Rattle.am9517.specs.Editions.{isIntel}
 use Rattle.am9517.specs.State.{ended}
 use Rattle.am9517.specs.Fields.{channel, withChannel, put, Tc, Request, Mask}
 use Rattle.am9517.specs.Modes.{autoinitialize, isSingle}
@@ -31,16 +32,17 @@ bitsOf c = record { tc = c .tc; request = c .request; mask = c .mask }
 abbrev pub withBits : Controller → Bits → Controller
 withBits c b = put (put (put c Tc (b .tc)) Request (b .request)) Mask (b .mask)
 
--- "TC sets the TC bit. External EOP alone does not (000)."
-abbrev pub setsTcBit : Bool → Bool → Bool
-setsTcBit tc eop = tc
+-- "TC sets the TC bit. External EOP alone does not (000)." Document 02, A2, of the Intel edition: "There, .. external EOP sets the TC bit of
+-- the channel whose count is being run (channel 1 in memory-to-memory)": it is that one that finishes (`afterTcOrEop`), autoinitialize or not
+abbrev pub setsTcBit : ℕ → Bool → Bool → Bool
+setsTcBit edition tc eop = tc || isIntel edition && eop
 
--- what TC or EOP leaves of the bits of channel n, which is in this mode: ".. the request bit is cleared, and the channel either
+-- what TC or EOP leaves of the bits of channel n, which is in this mode, in this edition: ".. the request bit is cleared, and the channel either
 -- restores current from base (autoinitialize) or sets its mask bit"
-abbrev pub bitsAfter : ℕ → ℕ → Bits → Bool → Bool → Bits
-bitsAfter n mode b tc eop =
+abbrev pub bitsAfter : ℕ → ℕ → ℕ → Bits → Bool → Bool → Bits
+bitsAfter edition n mode b tc eop =
     record {
-      tc = when (setsTcBit tc eop) (withBit (b .tc) n true) (b .tc);
+      tc = when (setsTcBit edition tc eop) (withBit (b .tc) n true) (b .tc);
       request = withBit (b .request) n false;
       mask = when (autoinitialize mode) (b .mask) (withBit (b .mask) n true);
     }
@@ -55,7 +57,7 @@ channelAfter ch =
 unfoldable pub finished : Controller → ℕ → Bool → Bool → Controller
 finished c n tc eop =
     let ch = channel c n in
-    ended (withBits (withChannel c n (channelAfter ch)) (bitsAfter n (ch .mode) (bitsOf c) tc eop))
+    ended (withBits (withChannel c n (channelAfter ch)) (bitsAfter (c .edition) n (ch .mode) (bitsOf c) tc eop))
 
 -- in memory-to-memory "At TC or EOP the service ends, request bits 0 and 1 are cleared, and channel 1 restores or is masked by its
 -- own mode bit 4. Channel 0's count and mask bit aren't touched": it is channel 1 that finishes, and only its mask bit is set. As to the

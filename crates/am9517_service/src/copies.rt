@@ -243,6 +243,7 @@ fn carry_restoring(source: Channel, target: Channel, hold: bool, memory: &mut [u
 
 // The leg of n transfers, at least one: channel 1's own, and channel 0's record and request bit.
 pub(crate) fn copy_leg(
+    edition: u8,
     source: Channel,
     target: Channel,
     b: Bits,
@@ -251,12 +252,12 @@ pub(crate) fn copy_leg(
     eop_at: u64,
 ) -> Copied
     requires { ⌜ (0 < n) × (n ≤ 65536) ⌝ }
-    ensures { λ r. ⌜ r ≡ copyLegOf source target b hold n «eop_at» ⌝ }
+    ensures { λ r. ⌜ r ≡ copyLegOf edition source target b hold n «eop_at» ⌝ }
 {
     let over = (n == target.count as u64 + 1) | (n == eop_at);
     let mut asked = b;
     asked.request = when(over, with_bit(b.request, 0, false), b.request);
-    let l = leg_of(1, target, asked, false, 8, n, eop_at);
+    let l = leg_of(edition, 1, target, asked, false, 8, n, eop_at);
     let there = l.channel;
     let bits = l.bits;
     Copied {

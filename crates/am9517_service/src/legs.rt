@@ -3,6 +3,7 @@ use crate::transfers::address_after;
 use crate::transfers::current_after;
 use crate::transfers::states_of;
 use am9517::Channel;
+use am9517::editions::is_intel;
 use am9517::modes::autoinitialize;
 use words::bits::with_bit;
 use words::bytes::high_byte;
@@ -28,18 +29,18 @@ pub struct Leg {
     pub states: u64,
 }
 
-fn sets_tc_bit(tc: bool, eop: bool) -> bool
-    ensures { λ r. ⌜ r ≡ setsTcBit tc eop ⌝ }
+fn sets_tc_bit(edition: u8, tc: bool, eop: bool) -> bool
+    ensures { λ r. ⌜ r ≡ setsTcBit edition tc eop ⌝ }
 {
-    tc
+    tc | (is_intel(edition) & eop)
 }
 
 // The bits of channel n, which is in this mode, where it met TC or EOP.
-fn bits_after(n: usize, mode: u8, b: Bits, tc: bool, eop: bool) -> Bits
-    ensures { λ r. ⌜ r ≡ bitsAfter n mode b tc eop ⌝ }
+fn bits_after(edition: u8, n: usize, mode: u8, b: Bits, tc: bool, eop: bool) -> Bits
+    ensures { λ r. ⌜ r ≡ bitsAfter edition n mode b tc eop ⌝ }
 {
     Bits {
-        tc: when(sets_tc_bit(tc, eop), with_bit(b.tc, n, true), b.tc),
+        tc: when(sets_tc_bit(edition, tc, eop), with_bit(b.tc, n, true), b.tc),
         request: with_bit(b.request, n, false),
         mask: when(autoinitialize(mode), b.mask, with_bit(b.mask, n, true)),
     }
@@ -58,6 +59,7 @@ fn channel_after(ch: Channel) -> Channel
 
 // The leg of channel i of n transfers, at least one.
 pub(crate) fn leg_of(
+    edition: u8,
     i: usize,
     ch: Channel,
     b: Bits,
@@ -67,7 +69,7 @@ pub(crate) fn leg_of(
     eop_at: u64,
 ) -> Leg
     requires { ⌜ (0 < n) × (n ≤ 65536) × (pace ≤ 8) ⌝ }
-    ensures { λ r. ⌜ r ≡ legOf i ch b first pace n «eop_at» ⌝ }
+    ensures { λ r. ⌜ r ≡ legOf edition i ch b first pace n «eop_at» ⌝ }
 {
     let mut left = current_after(ch, n);
     let mut bits = b;
@@ -75,7 +77,7 @@ pub(crate) fn leg_of(
     let eop = n == eop_at;
     if tc | eop {
         left = channel_after(left);
-        bits = bits_after(i, ch.mode, b, tc, eop);
+        bits = bits_after(edition, i, ch.mode, b, tc, eop);
     }
     Leg {
         channel: left,

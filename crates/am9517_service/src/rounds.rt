@@ -206,6 +206,7 @@ pub struct Turn {
 // A leg of n transfers of the service of channel i that was just granted: lent the device bytes not yet used, and the room behind
 // the last byte written.
 fn turn_of(
+    edition: u8,
     pace: u64,
     i: usize,
     ch: Channel,
@@ -218,12 +219,12 @@ fn turn_of(
 ) -> Turn
     requires { ⌜ (0 < n) × (pace ≤ 8) × (was .used ≤ length (now device)) × (was .written ≤ length (now room)) × Stocked ch (now memory) (drop (was .used) (now device)) (drop (was .written) (now room)) n ⌝ }
     requires { ⌜ (was .transfers + n < 2 ^ 64) × (was .states + 65536 * 9 < 2 ^ 64) ⌝ }
-    ensures { λ r. ⌜ r ≡ turnOf pace i ch n b was ⌝ }
+    ensures { λ r. ⌜ r ≡ turnOf edition pace i ch n b was ⌝ }
     ensures memory { λ _. ⌜ now (memory .exit) ≡ stored ch (drop (was .used) (now (device .entry))) (now (memory .entry)) n ⌝ }
     ensures room { λ _. ⌜ now (room .exit) ≡ take (was .written) (now (room .entry)) ++ loaded ch (now (memory .entry)) (drop (was .written) (now (room .entry))) n ⌝ }
 {
     let moved = move_on(ch, memory, device, was.used, room, was.written, n as usize);
-    let l = leg_of(i, ch, b, true, pace, n, 0);
+    let l = leg_of(edition, i, ch, b, true, pace, n, 0);
     let channel = l.channel;
     let bits = l.bits;
     Turn {
@@ -372,7 +373,7 @@ pub fn round(c: Controller, memory: &mut [u8], device: &[u8], room: &mut [u8], k
                 let source = bounded_channel(s.channels[i]);
                 let target = bounded_channel(s.channels[1]);
                 let m = target.count as u64 + 1;
-                let u = copy_leg(source, target, b, f.hold, m, 0);
+                let u = copy_leg(s.edition, source, target, b, f.hold, m, 0);
                 let from = u.source;
                 let to = u.target;
                 s.temporary = copy_bytes(source, target, f.hold, memory, m);
@@ -398,7 +399,18 @@ pub fn round(c: Controller, memory: &mut [u8], device: &[u8], room: &mut [u8], k
                 if l.transfers == 0 {
                     return closing(s, i, f, why, left == 0, services, n, k - left - longs);
                 }
-                let u = turn_of(f.pace, i, ch, l.transfers, b, n, memory, device, room);
+                let u = turn_of(
+                    s.edition,
+                    f.pace,
+                    i,
+                    ch,
+                    l.transfers,
+                    b,
+                    n,
+                    memory,
+                    device,
+                    room,
+                );
                 let there = u.channel;
                 s.channels[i] = there;
                 s.tc = u.bits.tc;

@@ -172,10 +172,19 @@ fn after_copy(c: Controller, i: usize, l: Copied, byte: u8, stays: bool) -> Cont
 // The leg of the open service of channel i.
 fn open_leg(c: Controller, i: usize, ch: Channel, n: u64, eop_at: u64) -> Leg
     requires { ⌜ (0 < n) × (n ≤ 65536) ⌝ }
-    ensures { λ r. ⌜ r ≡ legOf i ch (bitsOf c) (needsS1 c (ch .address)) (pace (c .command)) n «eop_at» ⌝ }
+    ensures { λ r. ⌜ r ≡ legOf (c .edition) i ch (bitsOf c) (needsS1 c (ch .address)) (pace (c .command)) n «eop_at» ⌝ }
 {
     let first = needs_s1(c.latch_full, c.latch, ch.address);
-    leg_of(i, ch, bits_of(c), first, pace_of(c.command), n, eop_at)
+    leg_of(
+        c.edition,
+        i,
+        ch,
+        bits_of(c),
+        first,
+        pace_of(c.command),
+        n,
+        eop_at,
+    )
 }
 
 // A service that makes no transfer: dropped, it ends; else it stays as it is. Its channel i is put back as it was, so that c is kept whole.
@@ -227,7 +236,7 @@ fn run_copy(
     }
     let stays = stays_open(why);
     let hold = address_hold(c.command);
-    let l = copy_leg(source, target, bits_of(c), hold, n, eop_at);
+    let l = copy_leg(c.edition, source, target, bits_of(c), hold, n, eop_at);
     let byte = copy_bytes(source, target, hold, memory, n);
     {
         ran(

@@ -1,12 +1,14 @@
 -- A state and its body.
 use Prim.Native.Nat.{ℕ, _+_, _≤_}
 use mathlib.Core.Path.{_≡_, refl, sym, ap, _∙_}
+use mathlib.Core.Bool.{true, false}
 use mathlib.Core.List.{List, [], _∷_, _++_, map}
 use native.Mathlib.Omega.{arith}
 use native.Mathlib.Nat.{add-zero}
 use lib.ListN.{length, getD, take, drop, length-drop}
 use lib.Seq.{take-add, getD-drop}
-use Rattle.am9517.specs.Fields.{blank, channel, make, field}
+use borrow.Author.Tests.{eqb-true, not-false}
+use Rattle.am9517.specs.Fields.{blank, channel, make, but, field, Edition}
 use Rattle.am9517.specs.declared.Channel.{Channel}
 use Rattle.am9517.specs.declared.Controller.{Controller}
 use Rattle.am9517_sheet.specs.declared.forms.Form.{Form}
@@ -14,7 +16,7 @@ use Rattle.am9517_sheet.specs.declared.forms.Form.the-variants.{One}
 use Rattle.am9517_sheet.specs.Bytes.{total, placed, OfBytes}
 use Rattle.am9517_sheet.specs.ClosedSums.{sixteenOf}
 use Rattle.am9517_sheet.specs.Form.{front, behind, channelsAt, bodySize}
-use Rattle.am9517_sheet.specs.Body.{channelBytes, channelsBytes, bodyOf, stateOf}
+use Rattle.am9517_sheet.specs.Body.{channelBytes, channelsBytes, bodyOf, exceeds, stateOf}
 use Rattle.am9517_sheet.proofs.BytesLaws.{stored-next, word-whole, word-low, word-high, first-cells}
 
 -- a list of four is its four elements
@@ -47,9 +49,26 @@ unfolding bodyOf
 front-stored One s out start = ap (λ (k : ℕ). placed out k (channelsBytes s ++ map (field s) behind)) (add-zero start)
 
 -- the state that a state's body tells, whatever stands behind it
-pub state-of-body : (form : Form) (s : Controller) (rest : List ℕ) → length (s .channels) ≡ 4 → stateOf form (bodyOf form s ++ rest) ≡ s
-unfolding stateOf bodyOf
-state-of-body One s rest h = simp word-whole (ap (λ (cs : List Channel). make cs (field s)) (four (s .channels) h))
+pub state-of-body : (form : Form) (s : Controller) (rest : List ℕ) → length (s .channels) ≡ 4 → exceeds form s ≡ false → stateOf form (bodyOf form s ++ rest) ≡ s
+unfolding stateOf bodyOf exceeds
+state-of-body One s rest h e =
+    let zero : s .edition ≡ 0 = eqb-true _ _ (not-false _ e) in
+    let told : ℕ → List Channel → Controller = λ edition cs. make cs (but (field s) Edition edition) in
+    simp word-whole (ap (told 0) (four (s .channels) h) ∙ ap (λ (edition : ℕ). told edition (s .channels)) (sym zero))
+
+-- a state of edition 0 has all of it a place in form 1, one of edition 1 has not
+pub zero-within : (s : Controller) → s .edition ≡ 0 → exceeds One s ≡ false
+unfolding exceeds
+zero-within s e = rw e
+
+pub one-exceeds : (s : Controller) → s .edition ≡ 1 → exceeds One s ≡ true
+unfolding exceeds
+one-exceeds s e = rw e
+
+-- the state that a body tells has nothing that has no place there
+pub told-within : (form : Form) (xs : List ℕ) → exceeds form (stateOf form xs) ≡ false
+unfolding exceeds stateOf
+told-within One xs = refl
 
 -- the fields before its channels, told
 front-told : (form : Form) (xs : List ℕ) → map (field (stateOf form xs)) (front form) ≡ take (channelsAt form) xs

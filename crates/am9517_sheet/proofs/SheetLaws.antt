@@ -16,7 +16,7 @@ use Rattle.am9517_sheet.specs.declared.SheetAnswer.the-variants.{Done, R
 use Rattle.am9517_sheet.specs.declared.forms.Form.{Form}
 use Rattle.am9517_sheet.specs.Bytes.{placed}
 use Rattle.am9517_sheet.specs.Form.{sheetSize}
-use Rattle.am9517_sheet.specs.Body.{bodyOf, stateOf}
+use Rattle.am9517_sheet.specs.Body.{bodyOf, exceeds, stateOf}
 use Rattle.am9517_sheet.specs.Trailer.{trailerOf, trailerGrounds}
 use Rattle.am9517_sheet.specs.Sheet.{sheetIn, sheetOf, sheetRefusalNumber, answerOf, stored, sheetWriteGrounds, sheetWriteOf, sheetReadGrounds, sheetReadOf}
 use Rattle.words.proofs.GroundLaws.{passed}
@@ -43,9 +43,9 @@ module _ (form : Form) where
   write-done s out e = simp e
 
   module _ (s : Controller) (n : ℕ) where
-    pub write-free : valid s ≡ true → sheetSize form ≤ n → refusal (sheetWriteGrounds form s n) ≡ 0
+    pub write-free : valid s ≡ true → sheetSize form ≤ n → exceeds form s ≡ false → refusal (sheetWriteGrounds form s n) ≡ 0
     unfolding refusal first when
-    write-free v h = simp (v, le-ltb _ _ h)
+    write-free v h e = simp (v, le-ltb _ _ h, e)
 
     pub write-valid : refusal (sheetWriteGrounds form s n) ≡ 0 → valid s ≡ true
     unfolding refusal first
@@ -54,6 +54,10 @@ module _ (form : Form) where
     pub write-room : refusal (sheetWriteGrounds form s n) ≡ 0 → sheetSize form ≤ n
     unfolding refusal first
     write-room e = ltb-false _ _ (passed _ _ _ (omega arith) (passed _ _ _ (omega arith) e .next) .test)
+
+    pub write-within : refusal (sheetWriteGrounds form s n) ≡ 0 → exceeds form s ≡ false
+    unfolding refusal first
+    write-within e = passed _ _ _ (omega arith) (passed _ _ _ (omega arith) (passed _ _ _ (omega arith) e .next) .next) .test
 
   module _ (bytes : List ℕ) where
     -- an accepted read: what it tells, and its room
@@ -76,8 +80,8 @@ module _ (form : Form) where
   unfolding refusal first when
   refused-by-sheet bytes h = rw (le-ltb _ _ h)
 
-  -- the sheet of a state in its ranges is accepted
-  pub sheet-accepted : (s : Controller) → length (s .channels) ≡ 4 → valid s ≡ true → refusedIn (sheetOf form s) ≡ 0
+  -- the sheet of a state in its ranges, of which all has a place in the form, is accepted
+  pub sheet-accepted : (s : Controller) → length (s .channels) ≡ 4 → exceeds form s ≡ false → valid s ≡ true → refusedIn (sheetOf form s) ≡ 0
   unfolding when
-  sheet-accepted s h v =
-      rw (state-of-body form s (trailerOf form (bodyOf form s)) h, v) (trailer-accepted form (bodyOf form s) 0 (body-length form s))
+  sheet-accepted s h e v =
+      rw (state-of-body form s (trailerOf form (bodyOf form s)) h e, v) (trailer-accepted form (bodyOf form s) 0 (body-length form s))

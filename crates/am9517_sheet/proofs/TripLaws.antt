@@ -8,6 +8,8 @@ use native.Mathlib.Nat.{add-zero}
 use lib.ListN.{length, take, drop, replicate, length-drop, take-append-drop}
 use lib.Seq.{getD-drop, length-take-le}
 use borrow.Author.Tests.{not-false}
+use Rattle.am9517.specs.Editions.{numberOf}
+use Rattle.am9517.specs.declared.Edition.the-variants.{Am9517A}
 use Rattle.am9517.specs.State.{fresh}
 use Rattle.am9517.specs.Ranges.{valid}
 use Rattle.am9517.specs.Refusals.{refusal}
@@ -24,11 +26,11 @@ use Rattle.am9517_sheet.specs.Sheet.{sheetIn, sheetOf, sheetRefusalNumbe
 use Rattle.words.proofs.GroundLaws.{passed}
 use Rattle.am9517_sheet.proofs.BytesLaws.{length-placed, last-placed, placed-self, word-drop, cells, all-cells}
 use Rattle.am9517_sheet.proofs.TrailerLaws.{trailer-told, trailer-bytes}
-use Rattle.am9517_sheet.proofs.BodyLaws.{state-of-body, body-of-state}
-use Rattle.am9517_sheet.proofs.SheetLaws.{number-said, sheet-length, write-done, write-room, write-valid, write-free, refusedIn, read-done, read-room, refused-by-sheet, sheet-accepted}
+use Rattle.am9517_sheet.proofs.BodyLaws.{state-of-body, told-within, body-of-state}
+use Rattle.am9517_sheet.proofs.SheetLaws.{number-said, sheet-length, write-done, write-room, write-valid, write-within, write-free, refusedIn, read-done, read-room, refused-by-sheet, sheet-accepted}
 
 -- "The fresh sheet: all zero but byte 39 = 0Fh and 43 = 03h, then 01 00 30 00 12 00 44 4D."
-pub fresh-sheet : sheetOf One fresh
+pub fresh-sheet : sheetOf One (fresh (numberOf Am9517A))
     ≡ replicate 39 0 ++ (0x0F ∷ 0 ∷ 0 ∷ 0 ∷ 0x03 ∷ 0 ∷ 0 ∷ 0 ∷ 0 ∷ 0x01 ∷ 0x00 ∷ 0x30 ∷ 0x00 ∷ 0x12 ∷ 0x00 ∷ 0x44 ∷ 0x4D ∷ [])
 unfolding bodyOf total
 fresh-sheet = refl
@@ -40,13 +42,14 @@ module _ (form : Form) where
   written-read s t out channels done =
       let free = sym (number-said _) ∙ ap sheetRefusalNumber done in
       let room = write-room form s (length out) free in
+      let within = write-within form s (length out) free in
       let at = length out - sheetSize form in
       let bytes = placed out at (sheetOf form s) in
       let sheet : sheetIn form bytes ≡ sheetOf form s = last-placed out (sheetOf form s) (sheetSize form) (sheet-length form s) room in
       let long : length bytes ≡ length out = length-placed out at (sheetOf form s) (omega (arith, sheet-length form s)) in
       let good : refusal (sheetReadGrounds form bytes) ≡ 0 =
-      refused-by-sheet form bytes (omega arith) ∙ ap (refusedIn form) sheet ∙ sheet-accepted form s channels (write-valid form s (length out) free) in
-      let state : stateOf form (sheetIn form bytes) ≡ s = ap (stateOf form) sheet ∙ state-of-body form s (trailerOf form (bodyOf form s)) channels in
+      refused-by-sheet form bytes (omega arith) ∙ ap (refusedIn form) sheet ∙ sheet-accepted form s channels within (write-valid form s (length out) free) in
+      let state : stateOf form (sheetIn form bytes) ≡ s = ap (stateOf form) sheet ∙ state-of-body form s (trailerOf form (bodyOf form s)) channels within in
       ap (λ (w : Stored). sheetReadOf form t (w .bytes)) (write-done form s out free)
       ∙ read-done form bytes t good
       ∙ ap (λ (u : Controller). record { controller = u; answer = Done }) state
@@ -79,5 +82,5 @@ module _ (form : Form) where
       let back : sheetOf form (stateOf form sheet) ≡ sheet =
       sheet-of-state sheet (λ i. rw (getD-drop at bytes i 0) (byte _)) (omega (arith, length-drop at bytes)) fine in
       ap (λ (r : SheetRead). sheetWriteOf form (r .controller) bytes) (read-done form bytes t free)
-      ∙ write-done form (stateOf form sheet) bytes (write-free form (stateOf form sheet) (length bytes) good room)
+      ∙ write-done form (stateOf form sheet) bytes (write-free form (stateOf form sheet) (length bytes) good room (told-within form sheet))
       ∙ ap (stored Done) (rw back (placed-self bytes (sheetSize form) room))

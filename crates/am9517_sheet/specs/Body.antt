@@ -1,6 +1,6 @@
 -- The bytes of a state in a form, and the state that a body of that form tells.
 use Prim.Native.Nat.{ℕ, _+_}
-use mathlib.Core.Bool.{cond}
+use mathlib.Core.Bool.{Bool, false, not, _||_, cond}
 use mathlib.Core.List.{List, [], _∷_, _++_, map}
 use lib.Dec.{eqb}
 use lib.ListN.{getD, drop}
@@ -9,7 +9,7 @@ use Rattle.am9517.specs.declared.Channel.{Channel}
 use Rattle.am9517.specs.declared.Controller.{Controller}
 use Rattle.am9517_sheet.specs.declared.forms.Form.{Form}
 use Rattle.am9517_sheet.specs.Bytes.{wordBytes, word}
-use Rattle.am9517_sheet.specs.Form.{front, behind, channelsAt, channelPlace}
+use Rattle.am9517_sheet.specs.Form.{front, missing, behind, channelsAt, channelPlace}
 
 -- "per channel base address, current address, base count, current count, mode (9 bytes each, 0 to 35)"
 abbrev pub channelBytes : Channel → List ℕ
@@ -38,6 +38,15 @@ bodyOf form s = map (field s) (front form) ++ (channelsBytes s ++ map (field s) 
 abbrev pub fieldIn : List Field → ℕ → List ℕ → Field → ℕ → ℕ
 fieldIn [] k b f other = other
 fieldIn (g ∷ gs) k b f other = cond (eqb (tag g) (tag f)) (getD b k 0) (fieldIn gs (k + 1) b f other)
+
+-- one of these fields isn't zero
+abbrev pub anySet : List Field → Controller → Bool
+anySet [] s = false
+anySet (f ∷ fs) s = anySet fs s || not (eqb (field s f) 0)
+
+-- the state has something in a field that has no place in the form
+unfoldable pub exceeds : Form → Controller → Bool
+exceeds form s = anySet (missing form) s
 
 -- the state that a body tells, in its ranges or not: a field without a place in the form is 0
 unfoldable pub stateOf : Form → List ℕ → Controller

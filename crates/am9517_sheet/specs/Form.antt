@@ -1,8 +1,8 @@
--- What a form decides: its number, and the fields that stand before the channels. A new form is a line in each.
+-- What a form decides: its number, the fields that stand before the channels, and those that have no place. A new form is a line in each.
 use Prim.Native.Nat.{ℕ, _+_, _*_}
 use mathlib.Core.List.{List, [], _∷_}
 use lib.ListN.{length}
-use Rattle.am9517.specs.Fields.{Field, Command, Tc, Request, Mask, Temporary, FlipFlop, Pins, Lowest, InService, Serving, LatchFull, Latch}
+use Rattle.am9517.specs.Fields.{Field, Command, Tc, Request, Mask, Temporary, FlipFlop, Pins, Lowest, InService, Serving, LatchFull, Latch, Edition}
 use Rattle.am9517_sheet.specs.declared.forms.Form.{Form}
 use Rattle.am9517_sheet.specs.declared.forms.Form.the-variants.{One}
 
@@ -13,6 +13,10 @@ number One = 1
 -- the fields before the channels, in the order of their places
 abbrev pub front : Form → List Field
 front One = []
+
+-- the fields that have no place in it: document 02, A2, "Form 1 has no place for the edition"
+abbrev pub missing : Form → List Field
+missing One = Edition ∷ []
 
 -- those behind the channels, the same in every form: "36 command; 37 TC; 38 request; 39 mask; 40 temporary; 41 flip-flop; 42 pins;
 -- 43 lowest; 44 in service; 45 serving; 46 latch full; 47 latch"

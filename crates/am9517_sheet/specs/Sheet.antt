@@ -15,7 +15,7 @@ use Rattle.am9517_sheet.specs.declared.SheetRead.{SheetRead}
 use Rattle.am9517_sheet.specs.declared.forms.Form.{Form}
 use Rattle.am9517_sheet.specs.Bytes.{placed, last}
 use Rattle.am9517_sheet.specs.Form.{sheetSize}
-use Rattle.am9517_sheet.specs.Body.{bodyOf, stateOf}
+use Rattle.am9517_sheet.specs.Body.{bodyOf, exceeds, stateOf}
 use Rattle.am9517_sheet.specs.Trailer.{withTrailer, trailerGrounds}
 
 -- where it stands
@@ -42,9 +42,10 @@ pub record Stored : Type 0 where
 abbrev pub stored : SheetAnswer → List ℕ → Stored
 stored a bs = record { answer = a; bytes = bs }
 
--- "sheet writing 1, 9", into a slice of n bytes: 9 "slice under 56 bytes for a sheet"
+-- "sheet writing 1, 9", into a slice of n bytes: 9 "slice under 56 bytes for a sheet". Document 02, A2: "writing such a state is refusal 15,
+-- after 1 and 9", one with an edition other than 0
 abbrev pub sheetWriteGrounds : Form → Controller → ℕ → List (Ground ℕ)
-sheetWriteGrounds form s n = 1 if not (valid s) ∷ 9 if ltb n (sheetSize form) ∷ []
+sheetWriteGrounds form s n = 1 if not (valid s) ∷ 9 if ltb n (sheetSize form) ∷ 15 if exceeds form s ∷ []
 
 -- a refusal's number only, and the slice stays; else the sheet stands at the slice's end
 abbrev pub sheetWriteOf : Form → Controller → List ℕ → Stored

@@ -12,11 +12,11 @@ ghost use mathlib.Core.Path.{_≡_};
 ghost use Prim.Native.Nat.{_+_, _≤_};
 ghost use lib.ListN.{length};
 ghost use mathlib.Core.List.{map};
-ghost use Rattle.am9517.specs.Fields.{field};
+ghost use Rattle.am9517.specs.Fields.{field, Edition};
 ghost use Rattle.am9517_sheet.specs.declared.forms.Form.the-variants.{One};
 ghost use Rattle.am9517_sheet.specs.Bytes.{placed};
-ghost use Rattle.am9517_sheet.specs.Form.{behind, channelPlace, bodySize};
-ghost use Rattle.am9517_sheet.specs.Body.{channelBytes, channelsBytes, channelAt, bodyOf, stateOf};
+ghost use Rattle.am9517_sheet.specs.Form.{front, behind, channelPlace, bodySize};
+ghost use Rattle.am9517_sheet.specs.Body.{channelBytes, channelsBytes, channelAt, bodyOf, exceeds, fieldIn, stateOf};
 
 fn channel_bytes(c: Channel) -> [u8; 9]
     ensures { λ r. ⌜ r ≡ channelBytes c ⌝ }
@@ -90,6 +90,15 @@ pub fn body_of(c: Controller) -> [u8; BODY]
     body
 }
 
+// Whether the state has something in a field that has no place in the form.
+pub(crate) fn exceeds(form: Form, c: Controller) -> bool
+    ensures { λ r. ⌜ r ≡ exceeds form c ⌝ }
+{
+    match form {
+        Form::One => c.edition != 0,
+    }
+}
+
 fn channel_at(b: &[u8], k: usize) -> Channel
     requires { ⌜ k + channelPlace 1 ≤ length (now b) ⌝ }
     ensures { λ r. ⌜ r ≡ channelAt (now (b .entry)) k ⌝ }
@@ -103,11 +112,21 @@ fn channel_at(b: &[u8], k: usize) -> Channel
     }
 }
 
+// The edition that a body tells: 0 where it has no place.
+fn edition_in(form: Form, b: &[u8]) -> u8
+    ensures { λ r. ⌜ r ≡ fieldIn (front form) 0 (now (b .entry)) Edition 0 ⌝ }
+{
+    match form {
+        Form::One => 0,
+    }
+}
+
 // The state that the body at the front of these bytes tells.
 pub(crate) fn state_in(form: Form, b: &[u8]) -> Controller
     requires { ⌜ bodySize form ≤ length (now b) ⌝ }
     ensures { λ r. ⌜ r ≡ stateOf form (now (b .entry)) ⌝ }
 {
+    let edition = edition_in(form, b);
     let at = channels_at(form);
     let core = &b[at..];
     let first = channel_at(core, 0);
@@ -128,6 +147,7 @@ pub(crate) fn state_in(form: Form, b: &[u8]) -> Controller
         serving: core[45],
         latch_full: core[46],
         latch: core[47],
+        edition,
     }
 }
 

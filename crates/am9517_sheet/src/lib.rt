@@ -1,4 +1,5 @@
 // Stored sheets, at the end of a lent slice.
+use crate::body::exceeds;
 use crate::body::state_in;
 use crate::body::store_body;
 use crate::forms::Form;
@@ -44,6 +45,9 @@ fn write_in(form: Form, c: Controller, out: &mut [u8]) -> SheetAnswer
     }
     if n < size {
         return SheetAnswer::Refused(9);
+    }
+    if exceeds(form, c) {
+        return SheetAnswer::Refused(15);
     }
     let start = n - size;
     store_body(form, c, out, start);

@@ -7,6 +7,7 @@ use crate::told::nothing_told;
 use crate::told::round_told;
 use crate::told::run_told;
 use am9517::Controller;
+use am9517::Edition;
 use am9517_service::round;
 use am9517_service::run;
 
@@ -14,7 +15,7 @@ mod told;
 
 // The state of a sheet, a fresh one where the sheet is refused.
 fn state_in(bytes: &[u8]) -> Controller {
-    let fresh = Controller::fresh();
+    let fresh = Controller::fresh(Edition::Am9517A);
     let o = am9517_sheet::read(fresh, bytes);
     o.controller
 }

@@ -1,5 +1,7 @@
--- What stands for an answer in C. A refusal's number is document 01's, 0 for none.
+-- What stands for an edition and for an answer in C. A refusal's number is document 01's, 0 for none.
 use Prim.Native.Nat.{ℕ}
+use lib.Dec.{ltb}
+use Rattle.words.specs.Choice.{when}
 use Rattle.am9517.specs.Answers.{refusalNumber}
 use Rattle.am9517.specs.declared.Answer.{Answer}
 use Rattle.am9517.specs.declared.Answer.the-variants as answer
@@ -16,6 +18,10 @@ use Rattle.am9517_service.specs.declared.Rounded.{Rounded}
 use Rattle.c_am9517.specs.declared.Told.{Told}
 use Rattle.c_am9517.specs.declared.RunTold.{RunTold}
 use Rattle.c_am9517.specs.declared.RoundTold.{RoundTold}
+
+-- the state's byte for the edition that a host asks for: a number over 255 is 255, which is no edition either
+unfoldable pub editionByte : ℕ → ℕ
+editionByte edition = when (ltb 255 edition) 255 edition
 
 -- the byte read or the channel granted; 0 where there is none
 abbrev pub valueOf : Answer → ℕ

@@ -1,6 +1,7 @@
 // The controller as a C library. The host owns the chip, a struct of plain numbers, and lends it to each call.
 // include/am9517.h tells the same in words.
 use am9517::Controller;
+use am9517::Edition;
 ghost use mathlib.Core.Path.{_≡_};
 ghost use Rattle.am9517.specs.State.{fresh};
 ghost use Rattle.am9517.specs.Answers.{writeOf, readOf, pinsOf, resetOf, grantOf};
@@ -9,7 +10,7 @@ ghost use Rattle.am9517_service.specs.Answers.{ranOf};
 ghost use Rattle.am9517_service.specs.RoundAnswers.{roundedOf};
 ghost use Rattle.am9517_sheet.specs.declared.forms.Form.the-variants.{One};
 ghost use Rattle.am9517_sheet.specs.Sheet.{sheetWriteOf, sheetReadOf};
-ghost use Rattle.c_am9517.specs.Numbers.{told};
+ghost use Rattle.c_am9517.specs.Numbers.{editionByte, told};
 ghost use Rattle.c_am9517.specs.Host.{version, lookOf, left, callOf, loadOf, saved, saveOf, runLeft, runCallOf, roundLeft, roundCallOf};
 
 mod calls;
@@ -51,14 +52,17 @@ pub struct RoundTold {
 pub extern "C" fn am9517_version() -> u32
     ensures { λ r. ⌜ r ≡ version ⌝ }
 {
-    20100
+    30000
 }
 
+// A fresh chip of this edition; one of no edition is refused by 1 in every call but a load.
 #[no_mangle]
-pub extern "C" fn am9517_fresh() -> Controller
-    ensures { λ r. ⌜ r ≡ fresh ⌝ }
+pub extern "C" fn am9517_fresh(edition: u32) -> Controller
+    ensures { λ r. ⌜ r ≡ fresh (editionByte edition) ⌝ }
 {
-    Controller::fresh()
+    let mut chip = Controller::fresh(Edition::Am9517A);
+    chip.edition = numbers::edition_byte(edition);
+    chip
 }
 
 // 1 where a field is out of its range, else 0.

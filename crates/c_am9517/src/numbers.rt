@@ -1,4 +1,4 @@
-// Numbers that stand for answers.
+// Numbers that stand for editions and answers.
 use crate::RoundTold;
 use crate::RunTold;
 use crate::Told;
@@ -14,7 +14,7 @@ ghost use Prim.Native.Nat.{_≤_};
 ghost use Rattle.am9517_service.specs.Answers.{runRefusalNumber};
 ghost use Rattle.am9517_service.specs.RoundAnswers.{roundRefusalNumber};
 ghost use Rattle.am9517_sheet.specs.Sheet.{sheetRefusalNumber};
-ghost use Rattle.c_am9517.specs.Numbers.{reasonOf, runReasonOf, roundReasonOf, toldOf, runToldOf, roundToldOf};
+ghost use Rattle.c_am9517.specs.Numbers.{editionByte, reasonOf, runReasonOf, roundReasonOf, toldOf, runToldOf, roundToldOf};
 
 // A refusal's number and a reason's.
 pub struct Pair {
@@ -27,6 +27,16 @@ pub(crate) fn wide(n: u8) -> u32
     ensures { λ r. ⌜ (r ≡ n) × (r ≤ 255) ⌝ }
 {
     n as u32
+}
+
+// The state's byte for an edition; one that no byte holds is no edition, and 255 is none.
+pub(crate) fn edition_byte(edition: u32) -> u8
+    ensures { λ r. ⌜ r ≡ editionByte edition ⌝ }
+{
+    if 255 < edition {
+        return 255;
+    }
+    edition as u8
 }
 
 pub(crate) fn told_of(answer: Answer) -> Told

@@ -7,6 +7,7 @@ use crate::answers::ok;
 use crate::answers::refused;
 use crate::answers::tell;
 use am9517::Controller;
+use am9517::Edition;
 use am9517_sheet::BODY;
 use am9517_sheet::SheetAnswer;
 use am9517_sheet::body_of;
@@ -19,14 +20,15 @@ use console_text::page::copies;
 use console_text::page::hex;
 use console_text::page::text;
 ghost use mathlib.Core.Path.{_≡_};
-ghost use Prim.Native.Nat.{_≤_, _/_};
-ghost use lib.ListN.{length};
+ghost use Prim.Native.Nat.{_*_, _≤_, _/_};
+ghost use lib.ListN.{length, take};
 ghost use Rattle.am9517.specs.State.{fresh};
 ghost use Rattle.am9517.specs.Answers.{resetOf, grantOf};
 ghost use Rattle.console_text.specs.Text.{page, put};
+ghost use Rattle.console_text.specs.Hex.{bytesIn};
 ghost use Rattle.console_chip.specs.Answers.{okText, bytesAnswer, reply, outcomeReply, said, saying};
 ghost use mathlib.Core.Bool.{true, false};
-ghost use Rattle.console_chip.specs.Control.{stateText, sheetSaid, sheetText, writeReply, readReply, pinsReply, stateReply, within, sheetReply, loadReply};
+ghost use Rattle.console_chip.specs.Control.{stateText, fullText, freshReply, saysBytes, stateTold, fullReply, sheetSaid, sheetText, writeReply, readReply, pinsReply, stateReply, within, sheetReply, loadReply};
 
 // The largest register number, limit or count that a command takes.
 const WORD: u32 = 0xffff_ffff;
@@ -39,26 +41,89 @@ pub fn state(c: Controller, out: &mut [u8], at: usize) -> usize
     hex(out, next, &body)
 }
 
+// The state in full: edition, waits, which it has none of, and body.
+pub fn full(c: Controller, out: &mut [u8], at: usize) -> usize
+    ensures { λ r. ⌜ page (now (out .exit)) r ≡ put (page (now (out .entry)) at) (fullText c) ⌝ }
+{
+    let body = body_of(c);
+    let front = [c.edition, 0];
+    let next = text(out, at, b"full ");
+    let next = hex(out, next, &front);
+    hex(out, next, &body)
+}
+
+fn says_bytes(digits: &[u8], n: usize) -> bool
+    requires { ⌜ n ≤ 50 ⌝ }
+    ensures { λ r. ⌜ r ≡ saysBytes (now (digits .entry)) n ⌝ }
+{
+    is_bytes(digits) & (digits.len() == 2 * n)
+}
+
+// The state of this edition whose body these digits say.
+fn state_told(edition: u8, digits: &[u8]) -> Controller
+    requires { ⌜ length (now digits) ≡ 2 * 48 ⌝ }
+    ensures { λ r. ⌜ r ≡ stateTold edition (now (digits .entry)) ⌝ }
+{
+    let mut body = [0u8; BODY];
+    store(&mut body, 0, digits);
+    let mut next = state_of(body);
+    next.edition = edition;
+    next
+}
+
 pub fn set_state(c: Controller, digits: &[u8], out: &mut [u8], at: usize) -> Spoken
     ensures { λ r. ⌜ said r (now (out .exit)) ≡ saying (page (now (out .entry)) at) (stateReply c (now (digits .entry))) ⌝ }
 {
-    if !is_bytes(digits) {
+    if !says_bytes(digits, BODY) {
         return fault(out, at, c);
     }
-    if digits.len() != 2 * BODY {
+    let next = state_told(c.edition, digits);
+    agree(out, at, next)
+}
+
+// The two bytes before a body that these digits say.
+fn front_told(digits: &[u8]) -> [u8; 2]
+    requires { ⌜ 4 ≤ length (now digits) ⌝ }
+    ensures { λ r. ⌜ r ≡ bytesIn (take 4 (now (digits .entry))) ⌝ }
+{
+    let mut front = [0u8; 2];
+    store(&mut front, 0, &digits[0..4]);
+    front
+}
+
+pub fn set_full(c: Controller, digits: &[u8], out: &mut [u8], at: usize) -> Spoken
+    ensures { λ r. ⌜ said r (now (out .exit)) ≡ saying (page (now (out .entry)) at) (fullReply c (now (digits .entry))) ⌝ }
+{
+    if !says_bytes(digits, 2 + BODY) {
         return fault(out, at, c);
     }
-    let mut body = [0u8; BODY];
-    store(&mut body, 0, digits);
-    let next = state_of(body);
+    let front = front_told(digits);
+    if front[1] != 0 {
+        return fault(out, at, c);
+    }
+    let next = state_told(front[0], &digits[4..]);
     agree(out, at, next)
 }
 
 pub fn make_fresh(out: &mut [u8], at: usize) -> Spoken
-    ensures { λ r. ⌜ said r (now (out .exit)) ≡ saying (page (now (out .entry)) at) (reply fresh okText) ⌝ }
+    ensures { λ r. ⌜ said r (now (out .exit)) ≡ saying (page (now (out .entry)) at) (reply (fresh 0) okText) ⌝ }
 {
-    let next = Controller::fresh();
+    let next = Controller::fresh(Edition::Am9517A);
     agree(out, at, next)
+}
+
+pub fn fresh_of(c: Controller, edition: &[u8], out: &mut [u8], at: usize) -> Spoken
+    ensures { λ r. ⌜ said r (now (out .exit)) ≡ saying (page (now (out .entry)) at) (freshReply c (now (edition .entry))) ⌝ }
+{
+    let said = number_of(edition, 1);
+    match said {
+        Number::Value(e) => {
+            let mut next = Controller::fresh(Edition::Am9517A);
+            next.edition = e as u8;
+            agree(out, at, next)
+        }
+        Number::Bad => fault(out, at, c),
+    }
 }
 
 pub fn write(c: Controller, reg: &[u8], byte: &[u8], out: &mut [u8], at: usize) -> Spoken

@@ -15,13 +15,13 @@ use Rattle.console_text.specs.declared.line.Words.{Words}
 use Rattle.console_text.specs.declared.forms.Command.{Command}
 use Rattle.console_text.specs.declared.forms.Command.the-variants.{Nothing, Chip, Arrays, Services, People, Unknown}
 use Rattle.console_text.specs.declared.forms.ChipCommand.{ChipCommand}
-use Rattle.console_text.specs.declared.forms.ChipCommand.the-variants.{State, SetState, Fresh, Write, Read, Pins, Reset, Grant, Sheet, Load}
+use Rattle.console_text.specs.declared.forms.ChipCommand.the-variants.{State, SetState, Full, SetFull, Fresh, FreshOf, Write, Read, Pins, Reset, Grant, Sheet, Load}
 use Rattle.console_text.specs.declared.forms.ArrayCommand.{ArrayCommand}
 use Rattle.console_text.specs.declared.forms.ArrayCommand.the-variants.{Memory, Poke, Peek, Feed, Fill, Room, Out, Dump, Queue, Empty}
 use Rattle.console_text.specs.declared.forms.ServiceCommand.{ServiceCommand}
 use Rattle.console_text.specs.declared.forms.ServiceCommand.the-variants.{Run, Round}
 use Rattle.console_chip.specs.Answers.{okText, errorText, bytesAnswer, Reply, reply, outcomeReply}
-use Rattle.console_chip.specs.Control.{stateText, stateReply, writeReply, readReply, pinsReply, sheetReply, loadReply}
+use Rattle.console_chip.specs.Control.{stateText, stateReply, fullText, fullReply, freshReply, writeReply, readReply, pinsReply, sheetReply, loadReply}
 use Rattle.console_arrays.specs.Arrays.{lentOf, lentText, peekText, Changed, changed, pokeOf, feedOf, fillOf, roomOf, positionOf}
 use Rattle.console_arrays.specs.Services.{Service, runReply, roundReply}
 use Rattle.console_dump.specs.Dump.{dumpOf}
@@ -31,7 +31,10 @@ use Rattle.console_commands.specs.Holding.{Held, having, Said, said}
 unfoldable pub chipReply : ChipCommand → Controller → List ℕ → List ℕ → Reply
 chipReply State c one two = reply c (stateText c)
 chipReply SetState c one two = stateReply c one
-chipReply Fresh c one two = reply fresh okText
+chipReply Full c one two = reply c (fullText c)
+chipReply SetFull c one two = fullReply c one
+chipReply Fresh c one two = reply (fresh 0) okText
+chipReply FreshOf c one two = freshReply c one
 chipReply Write c one two = writeReply c one two
 chipReply Read c one two = readReply c one
 chipReply Pins c one two = pinsReply c one

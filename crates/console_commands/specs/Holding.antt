@@ -30,7 +30,7 @@ having c memory lent queue room written =
 
 -- at the start: a fresh controller, 65,536 bytes lent, the queue empty, a room of 0 bytes
 abbrev pub freshConsole : Console
-freshConsole = record { controller = fresh; lent = 65536; start = 0; end = 0; size = 0; written = 0 }
+freshConsole = record { controller = fresh 0; lent = 65536; start = 0; end = 0; size = 0; written = 0 }
 
 -- What a line does: what is held after it, and the text of its answer.
 pub record Said : Type 0 where

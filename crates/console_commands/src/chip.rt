@@ -3,12 +3,15 @@ use crate::Console;
 use crate::holding::Executed;
 use am9517::Controller;
 use console_chip::answers::Spoken;
+use console_chip::control::fresh_of;
+use console_chip::control::full;
 use console_chip::control::grant;
 use console_chip::control::load;
 use console_chip::control::make_fresh;
 use console_chip::control::pins;
 use console_chip::control::read;
 use console_chip::control::reset;
+use console_chip::control::set_full;
 use console_chip::control::set_state;
 use console_chip::control::sheet;
 use console_chip::control::state;
@@ -43,7 +46,16 @@ fn chip_said(
             }
         }
         ChipCommand::SetState => set_state(c, one, out, at),
+        ChipCommand::Full => {
+            let next = full(c, out, at);
+            Spoken {
+                controller: c,
+                at: next,
+            }
+        }
+        ChipCommand::SetFull => set_full(c, one, out, at),
         ChipCommand::Fresh => make_fresh(out, at),
+        ChipCommand::FreshOf => fresh_of(c, one, out, at),
         ChipCommand::Write => write(c, one, two, out, at),
         ChipCommand::Read => read(c, one, out, at),
         ChipCommand::Pins => pins(c, one, out, at),

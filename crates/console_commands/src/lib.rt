@@ -1,5 +1,6 @@
 // The commands of a line, on all that the console holds.
 use am9517::Controller;
+use am9517::Edition;
 ghost use mathlib.Core.Path.{_≡_};
 ghost use Rattle.console_commands.specs.Holding.{freshConsole};
 
@@ -28,7 +29,7 @@ impl Console {
     pub fn fresh() -> Console
         ensures { λ r. ⌜ r ≡ freshConsole ⌝ }
     {
-        let controller = Controller::fresh();
+        let controller = Controller::fresh(Edition::Am9517A);
         Console {
             controller,
             lent: 65536,

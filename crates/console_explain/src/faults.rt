@@ -91,6 +91,16 @@ fn limit(out: &mut [u8], at: usize, held: Held, name: &[u8], line: &[u8]) -> usi
     if same(name, b"state") {
         return text(out, at, b"a state has 48 bytes, which are 96 digits\n");
     }
+    if same(name, b"full") {
+        return text(
+            out,
+            at,
+            b"a state in full has 50 bytes, which are 100 digits, and no waits: the second is 00\n",
+        );
+    }
+    if same(name, b"fresh") {
+        return text(out, at, b"E is 0, an Am9517A, or 1, an Intel 8237A\n");
+    }
     if same(name, b"help") {
         let next = named(out, at, line, 1);
         return text(out, next, b" is no command: help lists them\n");

@@ -68,8 +68,28 @@ fn nobody(out: &mut [u8], at: usize, c: Controller) -> usize {
     of_channels(out, at, c)
 }
 
+// Whether the edition is the broken range.
+fn broken(out: &mut [u8], at: usize, edition: u8) -> usize {
+    if edition <= 1 {
+        return at;
+    }
+    let next = text(out, at, b"    its edition is ");
+    let next = decimal(out, next, edition as u64);
+    text(out, next, b": 0 is Am9517A, 1 is Intel 8237A\n")
+}
+
 // What of the state it comes from, where its words don't tell.
 fn cause(out: &mut [u8], at: usize, c: Controller, lent: usize, number: &[u8]) -> usize {
+    if same(number, b"1") {
+        return broken(out, at, c.edition);
+    }
+    if same(number, b"15") {
+        return text(
+            out,
+            at,
+            b"    the state is an Intel 8237A's: full tells all of it\n",
+        );
+    }
     if same(number, b"6") {
         return nobody(out, at, c);
     }

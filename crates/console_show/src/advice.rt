@@ -6,9 +6,12 @@ fn rows_of_controller(out: &mut [u8], at: usize) -> usize {
     text(
         out,
         at,
-        b"state               the state's 48 bytes
+        b"state               the state's 48 bytes, without its edition
 state HEX           take 48 bytes as the state, with no range check
-fresh               a fresh state
+full                the state in full: edition, 00 for waits, the 48 bytes
+full HEX            take such 50 bytes as the state, with no range check
+fresh               a fresh Am9517A
+fresh E             a fresh state of edition E: 0 Am9517A, 1 Intel 8237A
 write REG BYTE      write a register, 0 to 15
 read REG            read a register
 pins P              set the DREQ pins, 0 to 15: bit 0 is channel 0's
@@ -91,7 +94,8 @@ fn examples_of_controller(out: &mut [u8], at: usize) -> usize {
         out,
         at,
         b"state               # and with 96 digits behind it, the state is set
-fresh
+full                # and with 100 digits behind it, the state is set
+fresh 1             # an Intel 8237A
 write 0xb 0x85      # the mode of channel 1: block, write, up
 read 8              # status
 pins 2              # channel 1's line is high, the others are low
@@ -172,7 +176,7 @@ pub fn help_refusals(out: &mut [u8], at: usize) -> usize {
         b" 1  the state breaks a range of the sheet section
  2  register number over 15, pins over 15, or more than 4,096 services asked for
  3  register access, grant or round during a service
- 4  read of 9, A, B, C, E, F, or write of E
+ 4  read of 9, A, B, C, E, F, or write of E in an Am9517A
  5  mode byte with bits 3-2 = 11 and bits 7-6 not 11
  6  grant with no entitled channel
  7  memory not of 65,536 bytes
@@ -182,6 +186,7 @@ pub fn help_refusals(out: &mut [u8], at: usize) -> usize {
 11  sheet fault: first two trailer bytes
 12  sheet fault: distance
 13  sheet fault: sum
-14  sheet fault: range",
+14  sheet fault: range
+15  form 1 has no place for the edition",
     )
 }

@@ -1,4 +1,5 @@
-// Single things in words: a byte, the parts of a mode and of a command.
+// Single things in words: a byte, the parts of a mode and of a command, an edition.
+use console_text::page::decimal;
 use console_text::page::hex;
 use console_text::page::text;
 use words::bits::bit;
@@ -55,6 +56,17 @@ pub(crate) fn mode_name(out: &mut [u8], at: usize, mode: u8) -> usize {
     let next = type_name(out, next, mode);
     let next = either(out, next, bit(mode, 5) == 1, b"down", b"up");
     either(out, next, bit(mode, 4) == 1, b" auto", b"")
+}
+
+pub(crate) fn edition_name(out: &mut [u8], at: usize, edition: u8) -> usize {
+    match edition {
+        0 => text(out, at, b"0 Am9517A"),
+        1 => text(out, at, b"1 Intel 8237A"),
+        _ => {
+            let next = decimal(out, at, edition as u64);
+            text(out, next, b" is none: 0 is Am9517A, 1 is Intel 8237A")
+        }
+    }
 }
 
 fn order_and_timing(out: &mut [u8], at: usize, command: u8) -> usize {

@@ -1,6 +1,7 @@
 // The state as a table, a row a channel, and what the console holds beside it.
 use crate::names::base_and_current;
 use crate::names::command_name;
+use crate::names::edition_name;
 use crate::names::either;
 use crate::names::hex_byte;
 use crate::names::mode_name;
@@ -66,6 +67,12 @@ fn channel_rows(out: &mut [u8], at: usize, c: Controller) -> usize {
     let next = channel_row(out, next, c, 2, third);
     let fourth = c.channels[3];
     channel_row(out, next, c, 3, fourth)
+}
+
+fn edition_row(out: &mut [u8], at: usize, edition: u8) -> usize {
+    let next = text(out, at, b"edition  ");
+    let next = edition_name(out, next, edition);
+    byte(out, next, b'\n')
 }
 
 fn command_rows(out: &mut [u8], at: usize, command: u8) -> usize {
@@ -144,6 +151,7 @@ channel base now   base now   line   mask request TC  entitled mode
 ",
     );
     let next = channel_rows(out, next, c);
+    let next = edition_row(out, next, c.edition);
     let next = command_rows(out, next, c.command);
     let next = service_rows(out, next, c);
     range_row(out, next, c)

@@ -9,7 +9,7 @@ use Rattle.words.specs.Choice.{when, _and_}
 use Rattle.console_text.specs.Text.{codes, same}
 use Rattle.console_text.specs.declared.forms.Command.{Command}
 use Rattle.console_text.specs.declared.forms.Command.the-variants.{Nothing, Chip, Arrays, Services, People, Unknown}
-use Rattle.console_text.specs.declared.forms.ChipCommand.the-variants.{State, SetState, Fresh, Write, Read, Pins, Reset, Grant, Sheet, Load}
+use Rattle.console_text.specs.declared.forms.ChipCommand.the-variants.{State, SetState, Full, SetFull, Fresh, FreshOf, Write, Read, Pins, Reset, Grant, Sheet, Load}
 use Rattle.console_text.specs.declared.forms.ArrayCommand.the-variants.{Memory, Poke, Peek, Feed, Fill, Room, Out, Dump, Queue, Empty}
 use Rattle.console_text.specs.declared.forms.ServiceCommand.the-variants.{Run, Round}
 use Rattle.console_text.specs.declared.forms.PeopleCommand.the-variants.{Show, Help, HelpOn}
@@ -37,7 +37,10 @@ abbrev pub controllerRows : List Row
 controllerRows =
     row "state" 0 (Chip State)
     ∷ row "state" 1 (Chip SetState)
+    ∷ row "full" 0 (Chip Full)
+    ∷ row "full" 1 (Chip SetFull)
     ∷ row "fresh" 0 (Chip Fresh)
+    ∷ row "fresh" 1 (Chip FreshOf)
     ∷ row "write" 2 (Chip Write)
     ∷ row "read" 1 (Chip Read)
     ∷ row "pins" 1 (Chip Pins)

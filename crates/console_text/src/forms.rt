@@ -19,7 +19,10 @@ pub enum Command {
 pub enum ChipCommand {
     State,
     SetState,
+    Full,
+    SetFull,
     Fresh,
+    FreshOf,
     Write,
     Read,
     Pins,
@@ -129,7 +132,10 @@ fn controller_row(name: &[u8], n: usize, other: Command) -> Command
     let no = chip(name, n, b"pins", 1, ChipCommand::Pins, no);
     let no = chip(name, n, b"read", 1, ChipCommand::Read, no);
     let no = chip(name, n, b"write", 2, ChipCommand::Write, no);
+    let no = chip(name, n, b"fresh", 1, ChipCommand::FreshOf, no);
     let no = chip(name, n, b"fresh", 0, ChipCommand::Fresh, no);
+    let no = chip(name, n, b"full", 1, ChipCommand::SetFull, no);
+    let no = chip(name, n, b"full", 0, ChipCommand::Full, no);
     let no = chip(name, n, b"state", 1, ChipCommand::SetState, no);
     chip(name, n, b"state", 0, ChipCommand::State, no)
 }

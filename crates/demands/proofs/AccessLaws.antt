@@ -49,8 +49,8 @@ module _ (s : Controller) (r : Ranges s) where
   same-service : (t : Controller) → ((n : ℕ) → n < 4 → modeValid (channel t n .mode) ≡ true)
       → t .tc ≤ 15 → t .request ≤ 15 → t .mask ≤ 15 → t .pins ≤ 15 → t .«flip_flop» ≤ 1 → t .lowest ≤ 3
       → t .«in_service» ≡ s .«in_service» → t .serving ≡ s .serving → t .«latch_full» ≡ s .«latch_full» → t .latch ≡ s .latch
-      → Ranges t
-  same-service t modes tc request mask pins flip lowest i n lf l =
+      → t .edition ≡ s .edition → Ranges t
+  same-service t modes tc request mask pins flip lowest i n lf l e =
       record {
         mode = modes;
         fields = record {
@@ -63,6 +63,7 @@ module _ (s : Controller) (r : Ranges s) where
           latchFull = rw lf (f .latchFull);
           lowest = lowest;
           serving = rw n (f .serving);
+          edition = rw e (f .edition);
         };
         rest = λ e. let y = r .rest (sym i ∙ e) in (n ∙ y .0, lf ∙ y .1);
         latch = λ e. l ∙ r .latch (sym lf ∙ e);
@@ -77,13 +78,13 @@ module _ (s : Controller) (r : Ranges s) where
       let c = channel s (reg / 2) in
       same-service _
       (λ n h. ap modeValid (modes-kept (s .channels) (reg / 2) n _ (when-both (λ (x : Channel). x .mode ≡ c .mode) (eqb (reg % 2) 0) refl refl)) ∙ r .mode n h)
-      (f .tc) (f .request) (f .mask) (f .pins) flips (f .lowest) refl refl refl refl
+      (f .tc) (f .request) (f .mask) (f .pins) flips (f .lowest) refl refl refl refl refl
 
   mode-ranges : (b : ℕ) → modeRefused b ≡ false → Ranges (modeWritten s b)
   unfolding modeWritten
   mode-ranges b h =
       same-service _ (λ n l. modes-set (λ (x : ℕ). modeValid x ≡ true) (s .channels) (b % 4) n _ (mode-stored b h) (r .mode n l))
-      (f .tc) (f .request) (f .mask) (f .pins) (f .flipFlop) (f .lowest) refl refl refl refl
+      (f .tc) (f .request) (f .mask) (f .pins) (f .flipFlop) (f .lowest) refl refl refl refl refl
 
   pub cleared-ranges : Ranges (cleared s)
   cleared-ranges =
@@ -99,6 +100,7 @@ module _ (s : Controller) (r : Ranges s) where
           latchFull = omega arith;
           lowest = omega arith;
           serving = omega arith;
+          edition = f .edition;
         };
         rest = λ e. (refl, refl);
         latch = λ e. refl;
@@ -113,24 +115,25 @@ module _ (s : Controller) (r : Ranges s) where
       let p4 = passed _ _ _ (omega arith) (p3 .next) in
       let fit : eqb reg 0xB && modeRefused b ≡ false = passed _ _ _ (omega arith) (p4 .next) .test in
       when-both Ranges (ltb reg 8) (port-ranges reg b)
-      (when-both Ranges (eqb reg 8) (same-service _ (r .mode) (f .tc) (f .request) (f .mask) (f .pins) (f .flipFlop) (f .lowest) refl refl refl refl)
+      (when-both Ranges (eqb reg 8) (same-service _ (r .mode) (f .tc) (f .request) (f .mask) (f .pins) (f .flipFlop) (f .lowest) refl refl refl refl refl)
       (when-both Ranges (eqb reg 9)
-      (same-service _ (r .mode) (f .tc) (four-kept (s .request) (b % 4) (eqb (bit b 2) 1) (f .request) (omega arith)) (f .mask) (f .pins) (f .flipFlop) (f .lowest) refl refl refl refl)
+      (same-service _ (r .mode) (f .tc) (four-kept (s .request) (b % 4) (eqb (bit b 2) 1) (f .request) (omega arith)) (f .mask) (f .pins) (f .flipFlop) (f .lowest) refl refl refl refl refl)
       (when-both Ranges (eqb reg 0xA)
-      (same-service _ (r .mode) (f .tc) (f .request) (four-kept (s .mask) (b % 4) (eqb (bit b 2) 1) (f .mask) (omega arith)) (f .pins) (f .flipFlop) (f .lowest) refl refl refl refl)
+      (same-service _ (r .mode) (f .tc) (f .request) (four-kept (s .mask) (b % 4) (eqb (bit b 2) 1) (f .mask) (omega arith)) (f .pins) (f .flipFlop) (f .lowest) refl refl refl refl refl)
       (when-each Ranges (eqb reg 0xB) (λ e. mode-ranges b (rw e at fit))
-      (λ e. when-both Ranges (eqb reg 0xC) (same-service _ (r .mode) (f .tc) (f .request) (f .mask) (f .pins) (omega arith) (f .lowest) refl refl refl refl)
+      (λ e. when-both Ranges (eqb reg 0xC) (same-service _ (r .mode) (f .tc) (f .request) (f .mask) (f .pins) (omega arith) (f .lowest) refl refl refl refl refl)
       (when-both Ranges (eqb reg 0xD) cleared-ranges
-      (when-both Ranges (eqb reg 0xF) (same-service _ (r .mode) (f .tc) (f .request) (omega arith) (f .pins) (f .flipFlop) (f .lowest) refl refl refl refl) r)))))))
+      (when-both Ranges (eqb reg 0xE) (same-service _ (r .mode) (f .tc) (f .request) (omega arith) (f .pins) (f .flipFlop) (f .lowest) refl refl refl refl refl)
+      (when-both Ranges (eqb reg 0xF) (same-service _ (r .mode) (f .tc) (f .request) (omega arith) (f .pins) (f .flipFlop) (f .lowest) refl refl refl refl refl) r))))))))
 
   pub read-ranges : (reg : ℕ) → Ranges (afterRead s reg)
   unfolding afterRead first
   read-ranges reg =
-      when-both Ranges (ltb reg 8) (same-service _ (r .mode) (f .tc) (f .request) (f .mask) (f .pins) flips (f .lowest) refl refl refl refl)
-      (when-both Ranges (eqb reg 8) (same-service _ (r .mode) (omega arith) (f .request) (f .mask) (f .pins) (f .flipFlop) (f .lowest) refl refl refl refl) r)
+      when-both Ranges (ltb reg 8) (same-service _ (r .mode) (f .tc) (f .request) (f .mask) (f .pins) flips (f .lowest) refl refl refl refl refl)
+      (when-both Ranges (eqb reg 8) (same-service _ (r .mode) (omega arith) (f .request) (f .mask) (f .pins) (f .flipFlop) (f .lowest) refl refl refl refl refl) r)
 
   pub pins-ranges : (p : ℕ) → refusal (pinsGrounds s p) ≡ 0 → Ranges (put s Pins p)
   unfolding refusal first
   pins-ranges p free =
       let h : p ≤ 15 = ltb-false _ _ (passed _ _ _ (omega arith) (passed _ _ _ (omega arith) free .next) .test) in
-      same-service _ (r .mode) (f .tc) (f .request) (f .mask) h (f .flipFlop) (f .lowest) refl refl refl refl
+      same-service _ (r .mode) (f .tc) (f .request) (f .mask) h (f .flipFlop) (f .lowest) refl refl refl refl refl

@@ -4,23 +4,24 @@ use mathlib.Core.Path.{_≡_, refl, sym, ap, subst, _∙_}
 use mathlib.Core.Bool.{Bool, true, false, not}
 use mathlib.Core.List.{List, [], _∷_}
 use native.Mathlib.Omega.{arith}
-use lib.Dec.{eqb}
+use lib.Dec.{eqb, ltb, leb}
 use lib.ListN.{length}
-use borrow.Author.Tests.{ne-eqb, eqb-true}
-use Rattle.words.specs.Choice.{when}
+use borrow.Author.Tests.{ne-eqb, eqb-true, ltb-true, lt-leb}
+use Rattle.words.specs.Choice.{when, _and_}
 use Rattle.words.specs.Grounds.{Ground, first}
-use Rattle.am9517.specs.Ranges.{valid}
+use Rattle.am9517.specs.Ranges.{modeValid, modesValid, fieldsValid, serviceValid, valid}
 use Rattle.am9517.specs.State.{fresh}
 use Rattle.am9517.specs.Refusals.{refusal}
 use Rattle.am9517.specs.Answers.{outcome}
 use Rattle.am9517.specs.declared.Controller.{Controller}
+use Rattle.am9517.specs.declared.Edition.the-variants.{Am9517A}
 use Rattle.am9517.specs.declared.Answer.{Answer}
 use Rattle.am9517_service.specs.Answers.{Given}
 use Rattle.am9517_service.specs.RoundAnswers.{RoundGiven, closed}
 use Rattle.am9517_sheet.specs.declared.SheetRead.{SheetRead}
 use Rattle.am9517_sheet.specs.declared.forms.Form.the-variants.{One}
-use Rattle.am9517_sheet.specs.Sheet.{Stored}
-use Rattle.c_am9517.specs.Numbers.{valueOf}
+use Rattle.am9517_sheet.specs.Sheet.{sheetRefusalNumber, Stored}
+use Rattle.c_am9517.specs.Numbers.{editionByte, valueOf}
 use Rattle.c_am9517.specs.Host.{lookGrounds, lookOf, loadOf, runCallOf, roundCallOf}
 use Rattle.demands.specs.Lists.{All, none, also}
 use Rattle.demands.specs.Operations.{Op, Write, Read, Pins, Reset, Grant, Run, Round, SheetWriting, SheetReading, Scene, scene, before, after, said}
@@ -31,8 +32,10 @@ use Rattle.am9517.proofs.RefusalLaws.{number-told}
 use Rattle.am9517_service.proofs.AnswerLaws.{run-refused}
 use Rattle.am9517_service.proofs.StatedLaws.{ran-told, round-told}
 use Rattle.am9517_sheet.proofs.SheetLaws.{number-said, write-done, write-free}
+use Rattle.am9517_sheet.proofs.BodyLaws.{zero-within}
 use Rattle.am9517_sheet.proofs.TripLaws.{written-read}
 use Rattle.demands.proofs.Refusals.{refusal-exactly, Zeros, demand-1, round-refused}
+use Rattle.demands.proofs.Sheets.{intel-refused}
 use Rattle.demands.proofs.Ranges.{kept, read, fresh-valid, not-by-1}
 
 -- a refused operation has no value
@@ -217,17 +220,30 @@ call-small s (CSave bytes) f g = absurd (f bytes refl)
 call-small s (CLoad bytes) f g = absurd (g bytes refl)
 
 load-never-1 : (s : Controller) (bytes : List ℕ) → ¬ (does s (CLoad bytes) .refusal ≡ 1)
-load-never-1 s bytes = not-by-1 fresh (SheetReading bytes) fresh-valid
+load-never-1 s bytes = not-by-1 _ (SheetReading bytes) (fresh-valid Am9517A)
 
 saved-and-loaded : (s t : Controller) (bytes : List ℕ) → length (s .channels) ≡ 4 → does s (CSave bytes) .refusal ≡ 0
     → does t (CLoad (does s (CSave bytes) .leaves .slice)) ≡ record { refusal = 0; beside = 0 ∷ []; leaves = scene s [] [] [] }
 saved-and-loaded s t bytes four free =
     ap (λ (x : SheetRead). leftBy (loadOf x)) (written-read One s t bytes four (ap (λ (w : Stored). w .answer) (write-done One s bytes (sym (number-said _) ∙ free))))
 
+fresh-in : (byte : ℕ) → valid (fresh byte) ≡ leb byte 1
+unfolding _and_ modeValid modesValid fieldsValid serviceValid valid
+fresh-in byte = go (leb byte 1) refl
+  where
+    go : (t : Bool) → leb byte 1 ≡ t → valid (fresh byte) ≡ t
+    go true e = simp e
+    go false e = simp e
+
+fresh-by-edition : (edition : ℕ) → valid (fresh (editionByte edition)) ≡ leb edition 1
+unfolding editionByte
+fresh-by-edition edition =
+    fresh-in _ ∙ when-each (λ (n : ℕ). leb n 1 ≡ leb edition 1) (ltb 255 edition) (λ e. sym (lt-leb edition 1 (omega (arith, ltb-true 255 edition e)))) (λ e. refl)
+
 pub chips-stay-good : ChipsStayGood
 chips-stay-good =
     record {
-      begins = fresh-valid;
+      begins = fresh-by-edition;
       accepted = accepted-good;
       refused = λ s c h. refused-stays s c (lent-chip s c) h;
       good = stays-good;
@@ -235,6 +251,7 @@ chips-stay-good =
       small = call-small;
       byOne = out-of-ranges;
       loadNeverBy1 = load-never-1;
-      saved = λ s bytes v room. number-said _ ∙ write-free One s (length bytes) v room;
+      saved = λ s bytes v e room. number-said _ ∙ write-free One s (length bytes) v room (zero-within s e);
+      unsaved = λ s bytes v e room. ap (λ (w : Stored). sheetRefusalNumber (w .answer)) (intel-refused s bytes v e room);
       loaded = saved-and-loaded;
     }

@@ -24,7 +24,7 @@ use Rattle.am9517_service.specs.Counts.{counts}
 use Rattle.am9517_service.specs.World.{World, startOf, Stop, memoryToMemory}
 use Rattle.am9517_service.specs.States.{copyPace}
 use Rattle.am9517_service.specs.Copy.{sourceNext, copied, sourceAfter}
-use Rattle.am9517_service.specs.Ends.{finished, afterTcOrEop, channelAfter}
+use Rattle.am9517_service.specs.Ends.{setsTcBit, finished, afterTcOrEop, channelAfter}
 use Rattle.am9517_service.specs.Transfer.{stepped}
 use Rattle.am9517_service.specs.Run.{runOf}
 use Rattle.am9517_service.specs.Answers.{Given, stopped, ranOf}
@@ -87,7 +87,7 @@ module _ (c : Controller) where
   finished-left x n tc eop p =
       record {
         registers = getD-set-other (x .channels) 1 0 (channelAfter (channel x 1)) blank apart ∙ p .registers;
-        tc = when-both (λ (b : ℕ). bit b 0 ≡ bit (c .tc) 0) tc (bit-0-kept (x .tc) true ∙ p .tc) (p .tc);
+        tc = when-both (λ (b : ℕ). bit b 0 ≡ bit (c .tc) 0) (setsTcBit (x .edition) tc eop) (bit-0-kept (x .tc) true ∙ p .tc) (p .tc);
         mask = when-both (λ (b : ℕ). bit b 0 ≡ bit (c .mask) 0) (autoinitialize (channel x 1 .mode)) (p .mask) (bit-0-kept (x .mask) true ∙ p .mask);
       }
 

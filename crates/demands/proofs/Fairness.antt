@@ -63,7 +63,7 @@ module _ (s : Controller) where
       (when-both Kept _ refl
       (when-both Kept _ refl
       (when-both Kept _ refl
-      (rw (when-miss (eqb r 13) _ _ (ne-eqb r 13 n)) (when-both Kept _ refl refl)))))))
+      (rw (when-miss (eqb r 13) _ _ (ne-eqb r 13 n)) (when-both Kept _ refl (when-both Kept _ refl refl))))))))
 
   after-read-kept : (r : ℕ) → Kept (afterRead s r)
   unfolding afterRead first

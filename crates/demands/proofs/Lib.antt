@@ -11,3 +11,4 @@ pub mod Calls
 pub mod Sheets
 pub mod Steps
 pub mod Copies
+pub mod Editions

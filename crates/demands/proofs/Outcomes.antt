@@ -49,6 +49,8 @@ one-outcome =
       isSingle = record { free = λ κs a. tt; single = λ κs a x y l l' p q. (same p q, refl) };
       isBlock = record { free = λ κs a. tt; single = λ κs a x y l l' p q. (same p q, refl) };
       isCascade = record { free = λ κs a. tt; single = λ κs a x y l l' p q. (same p q, refl) };
+      editionNumber = record { free = λ κs a. tt; single = λ κs a x y l l' p q. (same p q, refl) };
+      isIntel = record { free = λ κs a. tt; single = λ κs a x y l l' p q. (same p q, refl) };
       fresh = record { free = λ κs a. tt; single = λ κs a x y l l' p q. (same p q, refl) };
       write = record { free = λ κs a. tt; single = λ κs a x y l l' p q. (same (p .0) (q .0), refl) };
       read = record { free = λ κs a. tt; single = λ κs a x y l l' p q. (same (p .0) (q .0), refl) };

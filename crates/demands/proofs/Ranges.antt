@@ -8,12 +8,15 @@ use lib.Dec.{eqb}
 use borrow.Author.Tests.{eqb-true, eqb-false, not-false}
 use Rattle.words.specs.Choice.{_and_}
 use Rattle.words.specs.Grounds.{Ground, first}
+use Rattle.am9517.specs.Editions.{numberOf}
 use Rattle.am9517.specs.State.{fresh}
 use Rattle.am9517.specs.Ranges.{modeValid, modesValid, fieldsValid, serviceValid, valid}
 use Rattle.am9517.specs.Serving.{picked}
 use Rattle.am9517.specs.Refusals.{refusal, grantGrounds}
 use Rattle.am9517.specs.Answers.{outcome}
 use Rattle.am9517.specs.declared.Controller.{Controller}
+use Rattle.am9517.specs.declared.Edition.{Edition}
+use Rattle.am9517.specs.declared.Edition.the-variants.{Am9517A, Intel8237A}
 use Rattle.am9517.specs.declared.Answer.{Answer}
 use Rattle.am9517_service.specs.World.{Stop, startOf}
 use Rattle.am9517_service.specs.Answers.{Given, stopped, runGrounds}
@@ -129,22 +132,23 @@ never-1 s Reset v = also (λ q. ap not v) none
 never-1 s Grant v = also (λ q. ap not v) (also (other 3 _ (λ e. omega arith)) (also (other 6 _ (λ e. omega arith)) none))
 never-1 s (Run m d r limit eop) v = also (λ q. ap not v) (also (other 7 _ (λ e. omega arith)) (also (other 8 _ (λ e. omega arith)) none))
 never-1 s (Round m d r k) v = also (λ q. ap not v) (also (other 2 _ (λ e. omega arith)) (also (other 7 _ (λ e. omega arith)) (also (other 3 _ (λ e. omega arith)) none)))
-never-1 s (SheetWriting out) v = also (λ q. ap not v) (also (other 9 _ (λ e. omega arith)) none)
+never-1 s (SheetWriting out) v = also (λ q. ap not v) (also (other 9 _ (λ e. omega arith)) (also (other 15 _ (λ e. omega arith)) none))
 never-1 s (SheetReading bytes) v =
     also (other 9 _ (λ e. omega arith)) (also (other 10 _ (λ e. omega arith)) (also (other 11 _ (λ e. omega arith)) (also (other 12 _ (λ e. omega arith)) (also (other 13 _ (λ e. omega arith)) (also (other 14 _ (λ e. omega arith)) none)))))
 
 pub not-by-1 : (s : Controller) (op : Op) → valid s ≡ true → ¬ (said s op ≡ 1)
 not-by-1 s op v e = none-first (grounds s op) (never-1 s op v) (demand-1 s op .exactly 1 (λ z. omega arith) .0 e)
 
-pub fresh-valid : valid fresh ≡ true
+pub fresh-valid : (e : Edition) → valid (fresh (numberOf e)) ≡ true
 unfolding _and_ modeValid modesValid fieldsValid serviceValid valid
-fresh-valid = refl
+fresh-valid Am9517A = refl
+fresh-valid Intel8237A = refl
 
 pub ranges-kept : RangesKept
 ranges-kept =
     record {
       kept = kept;
       read = read;
-      fromFresh = λ ops op. not-by-1 _ op (kept-all fresh ops fresh-valid);
+      fromFresh = λ e ops op. not-by-1 _ op (kept-all _ ops (fresh-valid e));
       fromSheet = λ s bytes ops op free. not-by-1 _ op (kept-all _ ops (read s bytes free));
     }

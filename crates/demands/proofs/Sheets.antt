@@ -3,16 +3,26 @@ use Prim.Native.Nat.{ℕ, _+_, _-_, _≤_}
 use mathlib.Core.Path.{_≡_, sym, ap, _∙_}
 use mathlib.Core.List.{List, [], _++_, append-nil}
 use native.Mathlib.Omega.{arith}
+use mathlib.Core.Bool.{true}
 use lib.ListN.{length, take, drop, drop-of-length-le}
+use borrow.Author.Tests.{le-ltb}
+use Rattle.words.specs.Choice.{when}
+use Rattle.words.specs.Grounds.{first}
+use Rattle.am9517.specs.Editions.{numberOf}
+use Rattle.am9517.specs.Ranges.{valid}
+use Rattle.am9517.specs.declared.Edition.the-variants.{Am9517A, Intel8237A}
 use Rattle.am9517.specs.declared.Controller.{Controller}
 use Rattle.am9517.specs.Refusals.{refusal}
-use Rattle.am9517_sheet.specs.declared.SheetAnswer.the-variants.{Done}
+use Rattle.am9517_sheet.specs.declared.SheetAnswer.the-variants.{Done, Refused}
+use Rattle.am9517_sheet.specs.declared.SheetRead.{SheetRead}
+use Rattle.am9517_sheet.specs.Body.{stateOf}
 use Rattle.am9517_sheet.specs.declared.forms.Form.the-variants.{One}
 use Rattle.am9517_sheet.specs.Bytes.{placed, last, OfBytes}
-use Rattle.am9517_sheet.specs.Sheet.{sheetRefusalNumber, sheetOf, Stored, stored, sheetWriteGrounds, sheetWriteOf, sheetReadOf}
+use Rattle.am9517_sheet.specs.Sheet.{sheetRefusalNumber, answerOf, sheetOf, Stored, stored, sheetWriteGrounds, sheetWriteOf, sheetReadOf}
 use Rattle.demands.specs.Sheets.{RoundTrips}
 use Rattle.am9517_sheet.proofs.BytesLaws.{last-placed}
-use Rattle.am9517_sheet.proofs.SheetLaws.{number-said, sheet-length, write-done, write-free, write-valid, write-room}
+use Rattle.am9517_sheet.proofs.SheetLaws.{number-said, sheet-length, write-done, write-free, write-within, write-valid, write-room, read-done}
+use Rattle.am9517_sheet.proofs.BodyLaws.{zero-within, one-exceeds}
 use Rattle.am9517_sheet.proofs.TripLaws.{written-read, read-written, fresh-sheet}
 
 -- a piece put at the end has nothing behind it
@@ -32,9 +42,20 @@ read-copied t bytes out byte done room =
     let same : placed bytes (length bytes - 56) (sheetOf One s) ≡ bytes = ap (λ (w : Stored). w .bytes) (sym (write-done One s bytes free) ∙ back) in
     let sheet : sheetOf One s ≡ last 56 bytes =
     sym (last-placed bytes (sheetOf One s) 56 (sheet-length One s) (write-room One s (length bytes) free)) ∙ ap (last 56) same in
-    write-done One s out (write-free One s (length out) (write-valid One s (length bytes) free) room)
+    write-done One s out (write-free One s (length out) (write-valid One s (length bytes) free) room (write-within One s (length bytes) free))
     ∙ ap (stored Done) (placed-last out (sheetOf One s) 56 (sheet-length One s) room)
     ∙ ap (λ (xs : List ℕ). stored Done (take (length out - 56) out ++ xs)) sheet
 
+zero-written : (s : Controller) (out : List ℕ) → valid s ≡ true → s .edition ≡ numberOf Am9517A → 56 ≤ length out → sheetWriteOf One s out .answer ≡ Done
+zero-written s out v e room = ap (λ (w : Stored). w .answer) (write-done One s out (write-free One s (length out) v room (zero-within s e)))
+
+pub intel-refused : (s : Controller) (out : List ℕ) → valid s ≡ true → s .edition ≡ numberOf Intel8237A → 56 ≤ length out → sheetWriteOf One s out ≡ stored (Refused 15) out
+unfolding answerOf refusal first when
+intel-refused s out v e room = simp (v, le-ltb _ _ room, one-exceeds s e)
+
+read-edition : (t : Controller) (bytes : List ℕ) → sheetReadOf One t bytes .answer ≡ Done → sheetReadOf One t bytes .controller .edition ≡ numberOf Am9517A
+unfolding stateOf
+read-edition t bytes done = ap (λ (r : SheetRead). r .controller .edition) (read-done One bytes t (sym (number-said _) ∙ ap sheetRefusalNumber done))
+
 pub round-trips : RoundTrips
-round-trips = record { writtenRead = written-read One; readCopied = read-copied; readWritten = read-written One; freshSheet = fresh-sheet }
+round-trips = record { written = zero-written; noPlace = intel-refused; readEdition = read-edition; writtenRead = written-read One; readCopied = read-copied; readWritten = read-written One; freshSheet = fresh-sheet }

@@ -4,20 +4,23 @@ use mathlib.Core.Path.{_≡_}
 use mathlib.Core.Bool.{true, false}
 use mathlib.Core.List.{List, [], _∷_, _++_}
 use mathlib.Core.Logic.{_↔_}
+use lib.Dec.{leb}
 use lib.ListN.{length}
 use Rattle.words.specs.Grounds.{Ground}
+use Rattle.am9517.specs.Editions.{numberOf}
 use Rattle.am9517.specs.State.{fresh}
 use Rattle.am9517.specs.Ranges.{valid}
 use Rattle.am9517.specs.Serving.{entitled, setOf, status}
 use Rattle.am9517.specs.Refusals.{writeGrounds, readGrounds, pinsGrounds, resetGrounds, grantGrounds}
 use Rattle.am9517.specs.Answers.{writeOf, readOf, pinsOf, resetOf, grantOf}
 use Rattle.am9517.specs.declared.Controller.{Controller}
+use Rattle.am9517.specs.declared.Edition.the-variants.{Am9517A, Intel8237A}
 use Rattle.am9517_service.specs.Answers.{ranOf, runGrounds}
 use Rattle.am9517_service.specs.RoundAnswers.{roundedOf, roundGrounds}
 use Rattle.am9517_sheet.specs.declared.forms.Form.the-variants.{One}
 use Rattle.am9517_sheet.specs.Sheet.{sheetWriteGrounds, sheetReadGrounds, sheetWriteOf, sheetReadOf}
 use Rattle.c_am9517.specs.declared.Told.{Told}
-use Rattle.c_am9517.specs.Numbers.{told}
+use Rattle.c_am9517.specs.Numbers.{editionByte, told}
 use Rattle.c_am9517.specs.Host.{lookGrounds, lookOf, Left, callOf, loadOf, Saved, saveOf, RunLeft, runCallOf, RoundLeft, roundCallOf}
 use Rattle.demands.specs.Lists.{All}
 use Rattle.demands.specs.Operations.{Scene, scene}
@@ -132,8 +135,8 @@ abbrev pub Demand1OfCalls : Type 0
 Demand1OfCalls = (s : Controller) (c : Call) → CallRefuses (does s c) (callGrounds s c) (lentTo s c)
 
 pub record ChipsStayGood : Type 0 where
-  -- A fresh chip is in its ranges;
-  pub begins : valid fresh ≡ true
+  -- A fresh chip is in its ranges exactly where its edition is one of the two;
+  pub begins : (edition : ℕ) → valid (fresh (editionByte edition)) ≡ leb edition 1
   -- an accepted call leaves one in its ranges, whatever chip it was lent,
   pub accepted : (s : Controller) (c : Call) → does s c .refusal ≡ 0 → valid (does s c .leaves .controller) ≡ true
   -- and a refused one leaves it as it was;
@@ -149,8 +152,9 @@ pub record ChipsStayGood : Type 0 where
   -- 1 is said of every chip that is out of its ranges, but by a load, which asks nothing of what it replaces;
   pub byOne : (s : Controller) (c : Call) → valid s ≡ false → ((bytes : List ℕ) → ¬ (c ≡ CLoad bytes)) → does s c .refusal ≡ 1
   pub loadNeverBy1 : (s : Controller) (bytes : List ℕ) → ¬ (does s (CLoad bytes) .refusal ≡ 1)
-  -- A chip in its ranges is saved into any bytes that have room;
-  pub saved : (s : Controller) (bytes : List ℕ) → valid s ≡ true → 56 ≤ length bytes → does s (CSave bytes) .refusal ≡ 0
+  -- An Am9517A in its ranges is saved into any bytes that have room, and an Intel chip is refused by 15;
+  pub saved : (s : Controller) (bytes : List ℕ) → valid s ≡ true → s .edition ≡ numberOf Am9517A → 56 ≤ length bytes → does s (CSave bytes) .refusal ≡ 0
+  pub unsaved : (s : Controller) (bytes : List ℕ) → valid s ≡ true → s .edition ≡ numberOf Intel8237A → 56 ≤ length bytes → does s (CSave bytes) .refusal ≡ 15
   -- what was saved is loaded, whatever chip t it is loaded into, as it was. (Four channels are the type [Channel; 4].)
   pub loaded : (s t : Controller) (bytes : List ℕ)
       → length (s .channels) ≡ 4

@@ -50,6 +50,7 @@ pub record Fair (c : ℕ) (served : List ℕ) : Type 0 where
 
 -- Whatever is called from whatever state, accepted or refused, in whatever order, rounds among it, but for an accepted reset, master
 -- clear or sheet reading: in any stretch of successive grants, cut where you like, inside a round too, a channel that contends at each is served fairly.
+-- Document 02, A2: "Demand 3 reads the same for both": the state is any, of either edition.
 abbrev pub Demand3 : Type 0
 Demand3 =
     (s : Controller) (ops : List Op) (c : ℕ) (past window rest : List Granted)

@@ -1,5 +1,5 @@
 -- The owner's demands. 1: Refusals, Calls. 2: Outcomes, Sheets, Ranges. 3: Fairness, over Grants and Rounds. Operations names what they speak of.
--- Copies: document 02, A1.
+-- Document 02: Copies, A1; Editions, A2.
 pub mod Lists
 pub mod Operations
 pub mod Refusals
@@ -12,3 +12,4 @@ pub mod Calls
 pub mod Sheets
 pub mod Steps
 pub mod Copies
+pub mod Editions

@@ -12,11 +12,11 @@ use Rattle.words.specs.Grounds.{first}
 use Rattle.words.specs.Bits.{withBit}
 use Rattle.words.specs.Bytes.{byteOf, withByte}
 use Rattle.words.specs.Steps.{stride, step, steps}
-use Rattle.am9517.specs.State.{fresh}
-use Rattle.am9517.specs.Fields.{make, put, but, blank, Field, Command, Pins, Lowest}
+use Rattle.am9517.specs.Fields.{make, but, blank, Field, Command, Pins, Lowest}
 use Rattle.am9517.specs.declared.Channel.{Channel}
 use Rattle.am9517.specs.declared.Answer.{Answer}
 use Rattle.am9517.specs.declared.Answer.the-variants.{Value}
+use Rattle.am9517.specs.State.{fresh}
 use Rattle.am9517.specs.Ranges.{modeValid, modesValid, fieldsValid, serviceValid, valid}
 use Rattle.am9517.specs.Registers.{portWritten, portRead, modeWritten, afterWrite, value, afterRead}
 use Rattle.am9517.specs.Serving.{active, requestCounts, requests, entitled, setOf, status, pickedFrom, picked, granted}
@@ -36,13 +36,14 @@ use Rattle.am9517_service.specs.ClosedLegs.{addressAfter, currentAfter, entered
 use Rattle.am9517_service.specs.ClosedSpans.{untilEnd, stockOf}
 use Rattle.am9517_service.specs.declared.Reason.the-variants.{Ended}
 use Rattle.am9517_sheet.specs.Bytes.{total}
-use Rattle.am9517_sheet.specs.Body.{bodyOf, stateOf}
+use Rattle.am9517_sheet.specs.declared.forms.Form.the-variants.{One}
+use Rattle.am9517_sheet.specs.Body.{bodyOf, exceeds, stateOf}
 use Rattle.am9517_sheet.specs.Sheet.{answerOf}
 use Rattle.demands.specs.Lists.{All, none, also}
 use Rattle.demands.specs.Operations.{Grant, Run, Round, SheetWriting, SheetReading, next, afterAll, said}
 use Rattle.demands.specs.Grants.{Granted, told, grants, channels}
 use Rattle.demands.specs.Fairness.{Contends}
-use Rattle.owner.specs.Cases.{Holds, services, setUp, idleWith, ch, proved, requested, whole, limits, WorkedCases, Tight, p5, p6}
+use Rattle.owner.specs.Cases.{Holds, services, setUp, idleWith, ch, proved, requested, whole, limits, editionLimits, WorkedCases, Tight, p5, p6}
 use Rattle.words.proofs.ChoiceLaws.{when-hit, never}
 use Rattle.am9517_service.proofs.AnswerLaws.{run-accepted}
 use Rattle.am9517_service.proofs.LegRunLaws.{run-ends}
@@ -115,7 +116,7 @@ p6-grants m h =
     (served m h (at 10 3 0 0 0 1) (at 10 1 0 1 0 1) 1 1 _ refl refl (served m h (at 10 1 0 1 0 1) (at 10 3 0 1 0 2) 3 0 [] refl refl refl))
 
 -- where the set-up leads
-set-up : (afterAll fresh (setUp 15) ≡ at 15 3 0 0 0 0) × (afterAll (put fresh Lowest 1) (setUp 10) ≡ at 10 1 0 0 0 0)
+set-up : (afterAll (p5 .start) (setUp 15) ≡ at 15 3 0 0 0 0) × (afterAll (p6 .start) (setUp 10) ≡ at 10 1 0 0 0 0)
 unfolding
     when _and_ first withByte modeValid modesValid fieldsValid serviceValid valid portWritten modeWritten afterWrite refusal outcome
 set-up = (refl, refl)
@@ -146,9 +147,9 @@ unfolding refusal first
 round-says s m d r k w e = round-told s m d r k ∙ ap (λ (t : Bool). when (not (valid s)) 1 (when (ltb 4096 k) 2 (when t 7 (when (busy s) 3 0)))) e
 
 -- the numbers that sheets say, by the size of the slice
-sheet-writing-says : (s : Controller) (out : List ℕ) (n : ℕ) → length out ≡ n → said s (SheetWriting out) ≡ when (not (valid s)) 1 (when (ltb n 56) 9 0)
+sheet-writing-says : (s : Controller) (out : List ℕ) (n : ℕ) → length out ≡ n → said s (SheetWriting out) ≡ when (not (valid s)) 1 (when (ltb n 56) 9 (when (exceeds One s) 15 0))
 unfolding refusal first
-sheet-writing-says s out n h = number-said _ ∙ ap (λ (k : ℕ). when (not (valid s)) 1 (when (ltb k 56) 9 0)) h
+sheet-writing-says s out n h = number-said _ ∙ ap (λ (k : ℕ). when (not (valid s)) 1 (when (ltb k 56) 9 (when (exceeds One s) 15 0))) h
 
 sheet-reading-says : (s : Controller) (bytes : List ℕ) (n : ℕ) → length bytes ≡ n → n < 56 → said s (SheetReading bytes) ≡ 9
 unfolding refusal first
@@ -193,37 +194,53 @@ proved-cases =
 requested-cases : All Holds requested
 unfolding
     when _and_ first withBit stride step modeValid modesValid fieldsValid serviceValid valid active requestCounts entitled setOf pickedFrom picked granted refusal outcome memoryToMemory
-    stops pace copied counting finished afterTcOrEop single transferred runOf stopped
+    dropped short stops pace needsS1 cost moved copied counting finished afterTcOrEop single transferred runOf stopped afterWrite
 requested-cases =
     also (λ m h. ran-whole _ m _ _ refl refl h ∙ refl)
     (also (λ m h. ran-whole _ m _ _ refl refl h ∙ refl)
-    (also (λ m h. ran-whole _ m _ _ refl refl h ∙ refl) none))
+    (also (λ m h. ran-whole _ m _ _ refl refl h ∙ refl)
+    (also (λ m h. ran-whole _ m _ _ refl refl h ∙ refl)
+    (also (λ m h. ran-whole _ m _ _ refl refl h ∙ refl)
+    (also (λ m h. ran-whole _ m _ _ refl refl h ∙ refl)
+    (also (λ m h. refl) none))))))
 
 limit-cases : All Holds limits
 unfolding
-    when _and_ first modeValid modesValid fieldsValid serviceValid valid active requestCounts entitled setOf pickedFrom picked granted refusal outcome answerOf total bodyOf stateOf
+    when _and_ first modeValid modesValid fieldsValid serviceValid valid active requestCounts entitled setOf pickedFrom picked granted refusal outcome answerOf total bodyOf stateOf exceeds
 limit-cases =
     also (λ m h. refl)
     (also (λ m h. refl)
     (also (λ m h. refl)
-    (also (λ m h. round-says fresh m [] [] 4096 false (sized m h))
-    (also (λ m h. round-says fresh m [] [] 4097 false (sized m h))
-    (also (λ m h. sheet-writing-says fresh m 55 h)
-    (also (λ m h. sheet-writing-says fresh m 56 h)
-    (also (λ m h. sheet-reading-says fresh m 55 h (omega arith))
+    (also (λ m h. round-says (fresh 0) m [] [] 4096 false (sized m h))
+    (also (λ m h. round-says (fresh 0) m [] [] 4097 false (sized m h))
+    (also (λ m h. sheet-writing-says (fresh 0) m 55 h)
+    (also (λ m h. sheet-writing-says (fresh 0) m 56 h)
+    (also (λ m h. sheet-reading-says (fresh 0) m 55 h (omega arith))
     (also (λ m h. refl)
     (also (λ m h. run-says _ m [] [] 65536 0 true (missized m 65535 h (λ e. omega arith)))
     (also (λ m h. run-says _ m [] [] 65536 0 false (sized m h))
     (also (λ m h. run-says _ m [] [] 65536 0 true (missized m 65537 h (λ e. omega arith)))
-    (also (λ m h. round-says fresh m [] [] 4096 true (missized m 65535 h (λ e. omega arith)))
-    (also (λ m h. round-says fresh m [] [] 4096 true (missized m 65537 h (λ e. omega arith))) none)))))))))))))
+    (also (λ m h. round-says (fresh 0) m [] [] 4096 true (missized m 65535 h (λ e. omega arith)))
+    (also (λ m h. round-says (fresh 0) m [] [] 4096 true (missized m 65537 h (λ e. omega arith))) none)))))))))))))
+
+edition-cases : All Holds editionLimits
+unfolding
+    when _and_ first modeValid modesValid fieldsValid serviceValid valid refusal outcome exceeds
+edition-cases =
+    also (λ m h. refl)
+    (also (λ m h. refl)
+    (also (λ m h. refl)
+    (also (λ m h. sheet-writing-says (fresh 1) m 55 h)
+    (also (λ m h. sheet-writing-says (fresh 1) m 56 h)
+    (also (λ m h. sheet-writing-says (fresh 2) m 55 h)
+    (also (λ m h. refl) none))))))
 
 all-both : {A : Type 0} {P : A → Type 0} {xs ys : List A} → All P xs → All P ys → All P (xs ++ ys)
 all-both none h = h
 all-both (also p g) h = also p (all-both g h)
 
 pub worked-cases : WorkedCases
-worked-cases = all-both proved-cases (all-both requested-cases (all-both whole-cases limit-cases))
+worked-cases = all-both proved-cases (all-both requested-cases (all-both whole-cases (all-both limit-cases edition-cases)))
 
 pub tight : Tight
 unfolding active requestCounts entitled

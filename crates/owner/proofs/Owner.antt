@@ -9,6 +9,7 @@ use Rattle.demands.proofs.Sheets.{round-trips}
 use Rattle.demands.proofs.Rounds.{round-is-calls, spelled-leads, round-stops}
 use Rattle.demands.proofs.Fairness.{demand-3, demand-3-reported, lowest-kept}
 use Rattle.demands.proofs.Copies.{copy-loop}
+use Rattle.demands.proofs.Editions.{editions-differ}
 use Rattle.owner.proofs.Cases.{worked-cases, tight}
 
 pub owner : Owner
@@ -31,5 +32,6 @@ owner =
       fairReports = demand-3-reported;
       lowest = lowest-kept;
       copies = copy-loop;
+      editions = editions-differ;
       tight = tight;
     }

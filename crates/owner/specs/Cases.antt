@@ -3,12 +3,14 @@ use Prim.Native.Nat.{ℕ, zero, suc, _+_, _-_}
 use mathlib.Core.Path.{_≡_}
 use mathlib.Core.List.{List, [], _∷_, _++_}
 use lib.ListN.{length, getD, set}
+use Rattle.am9517.specs.Editions.{numberOf}
 use Rattle.am9517.specs.State.{fresh}
-use Rattle.am9517.specs.Fields.{make, put, blank, but, Field, Command, Tc, Mask, Temporary, Pins, Lowest}
+use Rattle.am9517.specs.Fields.{make, put, blank, but, Field, Command, Tc, Mask, Temporary, Pins, Lowest, Edition}
 use Rattle.am9517.specs.Answers.{readOf}
 use Rattle.am9517.specs.declared.Channel.{Channel}
 use Rattle.am9517.specs.declared.Controller.{Controller}
 use Rattle.am9517.specs.declared.Answer.the-variants.{Value}
+use Rattle.am9517.specs.declared.Edition.the-variants.{Am9517A, Intel8237A}
 use Rattle.am9517_service.specs.declared.Reason.the-variants.{Ended}
 use Rattle.am9517_service.specs.declared.RunAnswer.the-variants.{Stopped}
 use Rattle.am9517_service.specs.Counts.{counts}
@@ -17,7 +19,7 @@ use Rattle.am9517_sheet.specs.declared.forms.Form.the-variants.{One}
 use Rattle.am9517_sheet.specs.Sheet.{sheetOf}
 use Rattle.demands.specs.Lists.{All}
 use Rattle.demands.specs.Operations as op
-use Rattle.demands.specs.Operations.{Op, Write, Read, Grant, Run, Round, SheetWriting, SheetReading, afterAll, said}
+use Rattle.demands.specs.Operations.{Op, Write, Read, Reset, Grant, Run, Round, SheetWriting, SheetReading, afterAll, said}
 use Rattle.demands.specs.Grants.{grants, channels}
 use Rattle.demands.specs.Fairness.{Contends}
 
@@ -130,6 +132,50 @@ a1Held = copying (ch 0x18 0x10 1 1 0x90) (ch 0x18 0x18 1 1 0x90) 3 3 4 32 (λ m.
 abbrev pub a1Count : Case
 a1Count = copying (ch 0x10 0x10 0 0 0x80) (ch 0x10 0x11 0 0xFFFF 0x80) 1 0 1 8 (λ m. m) 0x10
 
+-- a case of an Intel chip: what is given begins and ends in that edition
+abbrev pub givenIntel : Expectation → Expectation
+givenIntel (Serves ns) = Serves ns
+givenIntel (Reads r b) = Reads r b
+givenIntel (Gives d eop g) =
+    Gives d eop (given (record { controller = put (g .ran .controller) Edition (numberOf Intel8237A); answer = g .ran .answer; counts = g .ran .counts }) (g .memory) (g .room))
+givenIntel (Says o n) = Says o n
+
+abbrev pub inIntel : Case → Case
+inIntel c =
+    record { size = c .size; start = put (c .start) Edition (numberOf Intel8237A); calls = c .calls; expected = λ m. givenIntel (c .expected m) }
+
+-- Document 02, A2: "external EOP sets the TC bit of the channel whose count is being run (channel 1 in memory-to-memory)": P7 of an Intel chip, TC set;
+abbrev pub a2Eop : Case
+a2Eop =
+    inIntel
+    (service (ch 0 0 9 9 0x84) (ch 0 2 9 7 0x84) 0 (0x11 ∷ 0x12 ∷ []) 2 1 15 2 7
+    (λ m. set (set m 0 0x11) 1 0x12))
+
+-- with autoinitialize, TC set, mask kept;
+abbrev pub a2Restored : Case
+a2Restored =
+    inIntel
+    (service (ch 0 0 9 9 0x94) (ch 0 0 9 9 0x94) 0 (0x21 ∷ 0x22 ∷ []) 2 1 14 2 7
+    (λ m. set (set m 0 0x21) 1 0x22))
+
+-- memory-to-memory, channel 1 count 2, EOP at transfer 2: two bytes, TC bit 1.
+abbrev pub a2Copied : Case
+a2Copied =
+    inIntel
+    (record {
+      size = 65536;
+      start = idleWith (ch 0x10 0x10 9 9 0x80) (ch 0x20 0x20 2 2 0x84) 1 0 12 0;
+      calls = λ m. Grant ∷ [];
+      expected = λ m.
+          Gives [] 2
+          (ends (idleWith (ch 0x10 0x12 9 7 0x80) (ch 0x20 0x22 2 0 0x84) 1 2 14 (getD (copied 0x10 0x20 m) 0x11 0)) 2 0 16 (copied 0x11 0x21 (copied 0x10 0x20 m)));
+    })
+
+-- "a write of register E clears all four mask bits": with line 3 held, channel 3 is granted, whatever byte was written
+abbrev pub a2Unmasked : Case
+a2Unmasked =
+    record { size = 0; start = fresh (numberOf Intel8237A); calls = λ m. op.Pins 8 ∷ Write 14 0xFF ∷ Grant ∷ []; expected = λ m. Serves (3 ∷ []) }
+
 -- rotating; all four single (verify) with count 9 and unmasked; these lines held: as a driver sets it up
 abbrev pub setUp : ℕ → List Op
 setUp lines =
@@ -151,7 +197,7 @@ abbrev pub p5 : Case
 p5 =
     record {
       size = 65536;
-      start = fresh;
+      start = fresh (numberOf Am9517A);
       calls = λ m. setUp 15 ++ services m 5;
       expected = λ m. Serves (0 ∷ 1 ∷ 2 ∷ 3 ∷ 0 ∷ []);
     }
@@ -161,7 +207,7 @@ abbrev pub p6 : Case
 p6 =
     record {
       size = 65536;
-      start = put fresh Lowest 1;
+      start = put (fresh (numberOf Am9517A)) Lowest 1;
       calls = λ m. setUp 10 ++ services m 3;
       expected = λ m. Serves (3 ∷ 1 ∷ 3 ∷ []);
     }
@@ -178,7 +224,7 @@ p8 = service (ch 0x40 0x40 0 0 0x94) (ch 0x40 0x40 0 0 0x94) 0 (7 ∷ []) 0 1 14
 
 -- "P9 fresh but for command 40h, pins 0: status F0h."
 abbrev pub p9 : Case
-p9 = record { size = 65536; start = put fresh Command 0x40; calls = λ m. []; expected = λ m. Reads 8 0xF0 }
+p9 = record { size = 65536; start = put (fresh (numberOf Am9517A)) Command 0x40; calls = λ m. []; expected = λ m. Reads 8 0xF0 }
 
 -- "Count FFFFh up: 65,536 transfers; 196,864 states from 0000h, 196,865 from 0001h": block, verify
 abbrev pub wholeFrom0 : Case
@@ -187,9 +233,12 @@ wholeFrom0 = service (ch 0 0 0xFFFF 0xFFFF 0x80) (ch 0 0 0xFFFF 0xFFFF 0x80) 0 [
 abbrev pub wholeFrom1 : Case
 wholeFrom1 = service (ch 1 1 0xFFFF 0xFFFF 0x80) (ch 1 1 0xFFFF 0xFFFF 0x80) 0 [] 0 1 15 65536 196865 (λ m. m)
 
--- an operation called in a fresh state, and the number it says
+-- an operation called in a fresh state of this edition, and the number it says
+abbrev pub calledIn : ℕ → ℕ → (List ℕ → Op) → ℕ → Case
+calledIn edition size o n = record { size = size; start = fresh edition; calls = λ m. []; expected = λ m. Says (o m) n }
+
 abbrev pub called : ℕ → (List ℕ → Op) → ℕ → Case
-called size o n = record { size = size; start = fresh; calls = λ m. []; expected = λ m. Says (o m) n }
+called = calledIn (numberOf Am9517A)
 
 -- an operation called in an open service, line 0 held
 abbrev pub running : ℕ → (List ℕ → Op) → ℕ → Case
@@ -200,9 +249,9 @@ running size o n =
 abbrev pub proved : List Case
 proved = p1 ∷ p2 ∷ p2compressed ∷ p3 ∷ p4 ∷ p5 ∷ p6 ∷ p7 ∷ p8 ∷ p9 ∷ []
 
--- Beside P4, for document 02's A1.
+-- Beside P4 and P7, for document 02's A1 and A2.
 abbrev pub requested : List Case
-requested = a1Area ∷ a1Held ∷ a1Count ∷ []
+requested = a1Area ∷ a1Held ∷ a1Count ∷ a2Eop ∷ a2Restored ∷ a2Copied ∷ a2Unmasked ∷ []
 
 abbrev pub whole : List Case
 whole = wholeFrom0 ∷ wholeFrom1 ∷ []
@@ -219,7 +268,7 @@ limits =
     ∷ called 55 (λ m. SheetWriting m) 9
     ∷ called 56 (λ m. SheetWriting m) 0
     ∷ called 55 (λ m. SheetReading m) 9
-    ∷ called 0 (λ m. SheetReading (sheetOf One fresh)) 0
+    ∷ called 0 (λ m. SheetReading (sheetOf One (fresh (numberOf Am9517A)))) 0
     ∷ running 65535 (λ m. Run m [] [] 65536 0) 7
     ∷ running 65536 (λ m. Run m [] [] 65536 0) 0
     ∷ running 65537 (λ m. Run m [] [] 65536 0) 7
@@ -227,8 +276,20 @@ limits =
     ∷ called 65537 (λ m. Round m [] [] 4096) 7
     ∷ []
 
+-- A2: "Refusal 4 no longer covers that write there"; "writing such a state is refusal 15, after 1 and 9"; no edition over 1
+abbrev pub editionLimits : List Case
+editionLimits =
+    called 0 (λ m. Write 14 0) 4
+    ∷ calledIn (numberOf Intel8237A) 0 (λ m. Write 14 0) 0
+    ∷ calledIn (numberOf Intel8237A) 0 (λ m. Read 14) 4
+    ∷ calledIn (numberOf Intel8237A) 55 (λ m. SheetWriting m) 9
+    ∷ calledIn (numberOf Intel8237A) 56 (λ m. SheetWriting m) 15
+    ∷ calledIn 2 55 (λ m. SheetWriting m) 1
+    ∷ calledIn 2 0 (λ m. Reset) 1
+    ∷ []
+
 abbrev pub cases : List Case
-cases = proved ++ (requested ++ (whole ++ limits))
+cases = proved ++ (requested ++ (whole ++ (limits ++ editionLimits)))
 
 -- Every case holds.
 abbrev pub WorkedCases : Type 0

@@ -8,6 +8,7 @@ use Rattle.demands.specs.Sheets.{RoundTrips}
 use Rattle.demands.specs.Rounds.{RoundIsCalls, RoundStops, SpelledLeads}
 use Rattle.demands.specs.Fairness.{Demand3, Demand3Reported, LowestKept}
 use Rattle.demands.specs.Copies.{CopyLoop}
+use Rattle.demands.specs.Editions.{EditionsDiffer}
 use Rattle.owner.specs.Cases.{WorkedCases, Tight}
 
 pub record Owner : Type 2 where
@@ -38,5 +39,8 @@ pub record Owner : Type 2 where
   pub lowest : LowestKept
   -- Document 02, A1: in every run of memory-to-memory channel 0 steps with each transfer, by nothing else, and ends nothing.
   pub copies : CopyLoop
+  -- Document 02, A2: the two editions differ in a write of register E, in the TC bit where external EOP is met, in the writing of a sheet, and in
+  -- nothing else; the edition is kept.
+  pub editions : EditionsDiffer
   -- Demand 3's numbers can't be better.
   pub tight : Tight

@@ -52,14 +52,15 @@ returns c = stated _ _ _ _ Done refl (
     (⊎-elim (λ w. stored c _ (w .0 .taken) (w .4) (at c 0xB _ (w .1 .keys4) (simp (w .3 .ensures))))
     (⊎-elim (λ w. stored c _ (w .0 .taken) (w .2) (at c 0xC _ (w .1 .keys5) refl))
     (⊎-elim (λ w. stored c _ (w .0 .taken) (w .3) (at c 0xD _ (w .1 .keys6) (sym (w .2 .ensures))))
-    (⊎-elim (λ w. stored c _ (w .0 .taken) (w .2) (at c 0xF _ (w .1 .keys7) refl))
+    (⊎-elim (λ w. stored c _ (w .0 .taken) (w .2) (at c 0xE _ (w .1 .keys7) refl))
+    (⊎-elim (λ w. stored c _ (w .0 .taken) (w .2) (at c 0xF _ (w .1 .keys8) refl))
     (⊎-elim (λ w.
     let r = write-register (s c) (reg c) (byte c) (sym (c .before .before .write-refusal .ensures) ∙ w .0 .taken) in
-    let small : reg c ≤ 7 = less (reg c) 7 (less (reg c) 8 (less (reg c) 9 (less (reg c) 10 (less (reg c) 11 (less (reg c) 12 (less (reg c) 13 (less (reg c) 14 (r .0) (w .1 .rest .1)) (r .1)) (w .1 .rest .0 .1)) (w .1 .rest .0 .0 .1)) (w .1 .rest .0 .0 .0 .1)) (w .1 .rest .0 .0 .0 .0 .1)) (w .1 .rest .0 .0 .0 .0 .0 .1)) (w .1 .rest .0 .0 .0 .0 .0 .0 .1) in
+    let small : reg c ≤ 7 = less (reg c) 7 (less (reg c) 8 (less (reg c) 9 (less (reg c) 10 (less (reg c) 11 (less (reg c) 12 (less (reg c) 13 (less (reg c) 14 r (w .1 .rest .1)) (w .1 .rest .0 .1)) (w .1 .rest .0 .0 .1)) (w .1 .rest .0 .0 .0 .1)) (w .1 .rest .0 .0 .0 .0 .1)) (w .1 .rest .0 .0 .0 .0 .0 .1)) (w .1 .rest .0 .0 .0 .0 .0 .0 .1)) (w .1 .rest .0 .0 .0 .0 .0 .0 .0 .1) in
     let port : reg c / 2 % 4 ≡ reg c / 2 = mod-eq-of-lt (omega arith) in
     ⊎-elim (λ v. stored c _ (w .0 .taken) (w .5) (port-after (s c) (reg c) (byte c) small ∙ simp (port, eq-eqb _ _ (v .0 .taken), w .4 .ensures, v .2, v .1 .ensures)))
     (λ v. stored c _ (w .0 .taken) (w .5) (port-after (s c) (reg c) (byte c) small ∙ simp (port, ne-eqb _ _ (v .0 .left), w .4 .ensures, v .2, v .1 .ensures))) (w .3 .came))
-    (λ w. kept c (w .0 .left) (w .1))))))))) (c .if1 .came))
+    (λ w. kept c (w .0 .left) (w .1)))))))))) (c .if1 .came))
 
 pub write-spec : {M : Type 1} → statement M
 write-spec = tie.close (tie.spec (search needs) (search needs) (search needs) (search needs) (search needs) (search needs) (search needs)

@@ -27,8 +27,9 @@ returns-4 : tie.Need-returns-4
 unfolding refusal first when
 returns-4 c =
     let at-if2 = c .before .before in let at-if1 = at-if2 .before in let at-valid = at-if1 .before in let at-when2 = at-valid .before in
-    let at-when = at-when2 .before in let at-mode-refused = at-when .before in
-    simp (sym (at-valid .valid .ensures), not-false (at-valid .valid .result) (at-if1 .if1 .left), le-ltb _ _ (at-if2 .if2 .left), eq-eqb _ _ (c .if3 .left), at-when2 .when2 .ensures, at-when .when .ensures, at-mode-refused .mode-refused .ensures)
+    let at-is-intel = at-when2 .before in let at-when = at-is-intel .before in let at-mode-refused = at-when .before in
+    simp (sym (at-valid .valid .ensures), not-false (at-valid .valid .result) (at-if1 .if1 .left), le-ltb _ _ (at-if2 .if2 .left), eq-eqb _ _ (c .if3 .left), at-when2 .when2 .ensures, at-is-intel .is-intel .ensures, at-when .when .ensures, at-mode-refused .mode-refused .ensures)
 
 pub write-refusal-spec : {M : Type 1} → statement M
-write-refusal-spec = tie.close (tie.spec (search needs) (search needs) (search needs) (search needs) returns returns-2 returns-3 returns-4)
+write-refusal-spec = tie.close (tie.spec (search needs) (search needs) (search needs) (search needs) (search needs) returns returns-2 returns-3
+    returns-4)

@@ -6,12 +6,12 @@ use borrow.Author.Needs.{needs}
 use Rattle.am9517_service.proofs.rounds.turn_of.Statement.{statement}
 use Rattle.am9517_service.proofs.rounds.turn_of.Tie as tie
 
-add-t19 : tie.Need-add-t19
-add-t19 c = omega (arith, c .before .before .before .before .before .before .before .before .before .before .before .before .before .before .pre .1 .0)
-
 add-t20 : tie.Need-add-t20
+add-t20 c = omega (arith, c .before .before .before .before .before .before .before .before .before .before .before .before .before .before .pre .1 .0)
+
+add-t21 : tie.Need-add-t21
 unfolding legOf
-add-t20 c =
+add-t21 c =
     let at-leg-of = c .before .before .before .before .before in
     let at-pre = at-leg-of .before .before .before .before .before .before .before .before .before .before .before in
     let h : at-leg-of .leg-of .result .states ≤ 65536 * 9 = rw (at-leg-of .leg-of .ensures) (states-most _ _ _ _ (at-pre .pre .0 .4 .most) (at-pre .pre .0 .1)) in omega (arith, h, at-pre .pre .1 .1)
@@ -22,4 +22,4 @@ returns c =
     (simp (at-move-on .move-on .ensures .0, at-leg-of .leg-of .ensures), at-move-on .move-on .ensures .1)
 
 pub turn-of-spec : {M : Type 1} → statement M
-turn-of-spec = tie.close (tie.spec (λ c κs. search needs) (search needs) add-t19 add-t20 (search needs) (search needs) returns)
+turn-of-spec = tie.close (tie.spec (λ c κs. search needs) (search needs) add-t20 add-t21 (search needs) (search needs) returns)

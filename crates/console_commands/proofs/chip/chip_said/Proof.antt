@@ -18,45 +18,58 @@ returns-2 c = simp (c .before .before .before .before .enum-told2 .given .1) (c 
 
 returns-3 : tie.Need-returns-3
 unfolding chipReply
-returns-3 c = simp (c .before .before .before .before .enum-told3 .given .1) (c .before .before .make-fresh .ensures)
+returns-3 c = simp (c .before .before .before .before .enum-told3 .given .1) (said-so _ _ _ (c .before .before .full .ensures))
 
 returns-4 : tie.Need-returns-4
 unfolding chipReply
-returns-4 c = simp (c .before .before .before .before .enum-told4 .given .1) (c .before .before .write .ensures)
+returns-4 c = simp (c .before .before .before .before .enum-told4 .given .1) (c .before .before .set-full .ensures)
 
 returns-5 : tie.Need-returns-5
 unfolding chipReply
-returns-5 c = simp (c .before .before .before .before .enum-told5 .given .1) (c .before .before .read .ensures)
+returns-5 c = simp (c .before .before .before .before .enum-told5 .given .1) (c .before .before .make-fresh .ensures)
 
 returns-6 : tie.Need-returns-6
 unfolding chipReply
-returns-6 c = simp (c .before .before .before .before .enum-told6 .given .1) (c .before .before .pins .ensures)
+returns-6 c = simp (c .before .before .before .before .enum-told6 .given .1) (c .before .before .fresh-of .ensures)
 
 returns-7 : tie.Need-returns-7
 unfolding chipReply
-returns-7 c = simp (c .before .before .before .before .enum-told7 .given .1) (c .before .before .reset .ensures)
+returns-7 c = simp (c .before .before .before .before .enum-told7 .given .1) (c .before .before .write .ensures)
 
 returns-8 : tie.Need-returns-8
 unfolding chipReply
-returns-8 c = simp (c .before .before .before .before .enum-told8 .given .1) (c .before .before .grant .ensures)
+returns-8 c = simp (c .before .before .before .before .enum-told8 .given .1) (c .before .before .read .ensures)
 
 returns-9 : tie.Need-returns-9
 unfolding chipReply
-returns-9 c =
-    let at-sheet = c .before .before .before .before in let at-enum-told9 = at-sheet .before .before .before in
-    let at-pre = at-enum-told9 .before .before .before .before .before .before in
-    simp (at-enum-told9 .enum-told9 .given .1) (at-sheet .sheet .ensures ∙ ap (saying _) (when-hit _ _ _ (le-leb _ _ (at-pre .pre .0))))
+returns-9 c = simp (c .before .before .before .before .enum-told9 .given .1) (c .before .before .pins .ensures)
 
 returns-10 : tie.Need-returns-10
 unfolding chipReply
-returns-10 c =
-    let at-load = c .before .before .before .before in let at-enum-told10 = at-load .before .before .before in
-    let at-pre = at-enum-told10 .before .before .before .before .before .before in
-    simp (at-enum-told10 .enum-told10 .given .1) (at-load .load .ensures ∙ ap (saying _) (when-hit _ _ _ (le-leb _ _ (at-pre .pre .1))))
+returns-10 c = simp (c .before .before .before .before .enum-told10 .given .1) (c .before .before .reset .ensures)
+
+returns-11 : tie.Need-returns-11
+unfolding chipReply
+returns-11 c = simp (c .before .before .before .before .enum-told11 .given .1) (c .before .before .grant .ensures)
+
+returns-12 : tie.Need-returns-12
+unfolding chipReply
+returns-12 c =
+    let at-sheet = c .before .before .before .before in let at-enum-told12 = at-sheet .before .before .before in
+    let at-pre = at-enum-told12 .before .before .before .before .before .before in
+    simp (at-enum-told12 .enum-told12 .given .1) (at-sheet .sheet .ensures ∙ ap (saying _) (when-hit _ _ _ (le-leb _ _ (at-pre .pre .0))))
+
+returns-13 : tie.Need-returns-13
+unfolding chipReply
+returns-13 c =
+    let at-load = c .before .before .before .before in let at-enum-told13 = at-load .before .before .before in
+    let at-pre = at-enum-told13 .before .before .before .before .before .before in
+    simp (at-enum-told13 .enum-told13 .given .1) (at-load .load .ensures ∙ ap (saying _) (when-hit _ _ _ (le-leb _ _ (at-pre .pre .1))))
 
 pub chip-said-spec : {M : Type 1} → statement M
 chip-said-spec = tie.close (tie.spec (search needs) (search needs) (search needs) (search needs) (search needs) (search needs) (search needs)
     (search needs) (search needs) (search needs) (search needs) (search needs) (search needs) (search needs) (search needs) (search needs)
-    (search needs) (search needs) (search needs) (search needs) (search needs) returns (search needs) returns-2 (search needs) returns-3
-    (search needs) returns-4 (search needs) returns-5 (search needs) returns-6 (search needs) returns-7 (search needs) returns-8 (search needs)
-    (search needs) returns-9 (search needs) (search needs) returns-10)
+    (search needs) (search needs) (search needs) (search needs) (search needs) (search needs) (search needs) (search needs) (search needs)
+    (search needs) (search needs) returns (search needs) returns-2 (search needs) returns-3 (search needs) returns-4 (search needs) returns-5
+    (search needs) returns-6 (search needs) returns-7 (search needs) returns-8 (search needs) returns-9 (search needs) returns-10 (search needs)
+    returns-11 (search needs) (search needs) returns-12 (search needs) (search needs) returns-13)
