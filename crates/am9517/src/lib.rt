@@ -105,7 +105,7 @@ impl Controller {
     pub fn write(self, reg: u32, byte: u8) -> Outcome
         ensures { λ r. ⌜ (r ≡ writeOf self reg byte) × (refusalNumber (r .answer) ≡ refusal (writeGrounds self reg byte)) ⌝ }
     {
-        // One copy that is changed in place, by a channel told by a variable, and one way out: so it is copied whole.
+        // One copy, changed in place by a channel told by a variable, is copied whole; the commoner writes have a shorter way out of their own.
         let mut next = self;
         let no = next.write_refusal(reg, byte);
         let n = (byte % 4) as usize;
@@ -113,23 +113,31 @@ impl Controller {
         let answer = answered(no, Answer::Done);
         if no == 0 {
             match reg {
-                8 => next.command = byte,
                 9 => next.request = with_bit(next.request, n, is_set(byte, 2)),
                 0xA => next.mask = with_bit(next.mask, n, is_set(byte, 2)),
-                0xB => next.channels[n] = next.channels[n].with_mode(byte - byte % 4),
-                0xC => next.flip_flop = 0,
                 0xD => next = next.cleared(),
                 0xE => next.mask = 0,
                 0xF => next.mask = byte % 16,
                 _ => {
-                    let high = next.flip_flop == 1;
-                    let c = next.channels[port];
-                    if reg % 2 == 0 {
-                        next.channels[port] = c.with_address_byte(high, byte);
-                    } else {
-                        next.channels[port] = c.with_count_byte(high, byte);
+                    match reg {
+                        8 => next.command = byte,
+                        0xB => next.channels[n] = next.channels[n].with_mode(byte - byte % 4),
+                        0xC => next.flip_flop = 0,
+                        _ => {
+                            let high = next.flip_flop == 1;
+                            let c = next.channels[port];
+                            if reg % 2 == 0 {
+                                next.channels[port] = c.with_address_byte(high, byte);
+                            } else {
+                                next.channels[port] = c.with_count_byte(high, byte);
+                            }
+                            next.flip_flop = when(high, 0, 1);
+                        }
                     }
-                    next.flip_flop = when(high, 0, 1);
+                    return Outcome {
+                        controller: next,
+                        answer,
+                    };
                 }
             }
         }
@@ -153,8 +161,10 @@ impl Controller {
         if no == 0 {
             match reg {
                 8 => {
-                    value = next.status();
+                    // Asked of the old state, after the store: so every read is 8 instructions shorter than with the call first.
+                    let was = next;
                     next.tc = 0;
+                    value = was.status();
                 }
                 0xD => {}
                 _ => {
@@ -179,29 +189,31 @@ impl Controller {
     pub fn pins(self, levels: u32) -> Outcome
         ensures { λ r. ⌜ (r ≡ pinsOf self levels) × (refusalNumber (r .answer) ≡ refusal (pinsGrounds self levels)) ⌝ }
     {
-        let no = self.pins_refusal(levels);
-        if no != 0 {
-            return self.refused(no);
-        }
+        // One copy and one way out, refused or not, which is shorter than two; so in reset and grant.
         let mut next = self;
-        next.pins = (levels % 256) as u8;
+        let no = next.pins_refusal(levels);
+        if no == 0 {
+            next.pins = (levels % 256) as u8;
+        }
+        let answer = answered(no, Answer::Done);
         Outcome {
             controller: next,
-            answer: Answer::Done,
+            answer,
         }
     }
 
     pub fn reset(self) -> Outcome
         ensures { λ r. ⌜ (r ≡ resetOf self) × (refusalNumber (r .answer) ≡ refusal (resetGrounds self)) ⌝ }
     {
-        let no = self.reset_refusal();
-        if no != 0 {
-            return self.refused(no);
+        let mut next = self;
+        let no = next.reset_refusal();
+        if no == 0 {
+            next = next.cleared();
         }
-        let next = self.cleared();
+        let answer = answered(no, Answer::Done);
         Outcome {
             controller: next,
-            answer: Answer::Done,
+            answer,
         }
     }
 
@@ -209,15 +221,16 @@ impl Controller {
     pub fn grant(self) -> Outcome
         ensures { λ r. ⌜ (r ≡ grantOf self) × (refusalNumber (r .answer) ≡ refusal (grantGrounds self)) ⌝ }
     {
-        let n = self.picked();
-        let no = self.grant_refusal(n);
-        if no != 0 {
-            return self.refused(no);
+        let mut next = self;
+        let n = next.picked();
+        let no = next.grant_refusal(n);
+        if no == 0 {
+            next = next.granted(n);
         }
-        let next = self.granted(n);
+        let answer = answered(no, Answer::Value(n));
         Outcome {
             controller: next,
-            answer: Answer::Value(n),
+            answer,
         }
     }
 }

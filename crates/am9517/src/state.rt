@@ -1,7 +1,6 @@
 // Changes of the whole state.
 use crate::Answer;
 use crate::Controller;
-use crate::Outcome;
 ghost use mathlib.Core.Path.{_≡_};
 ghost use lib.Dec.{eqb};
 ghost use Rattle.words.specs.Choice.{when};
@@ -41,15 +40,5 @@ impl Controller {
         next.mask = 15;
         next.lowest = 3;
         next
-    }
-
-    // A refusal gives its number, and the state stays.
-    pub(crate) fn refused(self, number: u8) -> Outcome
-        ensures { λ r. ⌜ r ≡ record { controller = self; answer = Refused number } ⌝ }
-    {
-        Outcome {
-            controller: self,
-            answer: Answer::Refused(number),
-        }
     }
 }

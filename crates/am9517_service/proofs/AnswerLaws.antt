@@ -57,14 +57,14 @@ set-here (x ∷ xs) (suc n) = ap (λ (l : List Channel). x ∷ l) (set-here xs n
 
 -- a service that makes no transfer leaves the controller as it was, or ended
 module _ (c : Controller) (i : ℕ) (ch : Channel) (here : ch ≡ channel c i) (x : Controller) (stays : Bool) where
-  back : withChannel c i ch ≡ c
-  back = ap (λ (l : List Channel). make l (field c)) (ap (set (c .channels) i) here ∙ set-here (c .channels) i)
+  back : (y : Controller) → x ≡ y → y .channels ≡ c .channels → withChannel x i ch ≡ y
+  back y e k = ap (λ (z : Controller). withChannel z i ch) e ∙ ap (λ (l : List Channel). make l (field y)) (rw (k, here) (set-here (c .channels) i))
 
-  pub stood-ended : not stays ≡ true → x ≡ ended (withChannel c i ch) → x ≡ when stays c (ended c)
-  stood-ended s e = e ∙ ap (λ (y : Controller). ended y) back ∙ sym (when-miss _ _ _ (not-true stays s))
+  pub stood-ended : not stays ≡ true → x ≡ ended c → withChannel x i ch ≡ when stays c (ended c)
+  stood-ended s e = back (ended c) e refl ∙ sym (when-miss _ _ _ (not-true stays s))
 
-  pub stood-open : not stays ≡ false → x ≡ withChannel c i ch → x ≡ when stays c (ended c)
-  stood-open s e = e ∙ back ∙ sym (when-hit _ _ _ (not-false stays s))
+  pub stood-open : not stays ≡ false → x ≡ c → withChannel x i ch ≡ when stays c (ended c)
+  stood-open s e = back c e refl ∙ sym (when-hit _ _ _ (not-false stays s))
 
 pub stood-as : (c x : Controller) (why : Reason) (stays : Bool) → stays ≡ staysOpen why → x ≡ when stays c (ended c) → (m room : List ℕ)
     → given (record { controller = x; answer = Stopped why; counts = none }) m room ≡ stopped (stop (startOf (when (staysOpen why) c (ended c)) m room) why)

@@ -173,16 +173,16 @@ module _ (c : Controller) (m d r : List ℕ) (limit eop : ℕ) (ic : memoryToMem
   copy-led s e = rw e copy-run
 
   -- what the run answers, told by the parts of the leg
-  pub copy-answer : (s : Span) → s ≡ copySpan count limit eop → 0 < s .transfers → (source : Channel) → source ≡ channel c 0 → (hold : Bool) → hold ≡ addressHold (c .command)
-      → (b : Bits) → b ≡ bitsOf c → (l : Copied) → l ≡ copyLegOf (c .edition) source (channel c 1) b hold (s .transfers) eop
-      → (byte : ℕ) → byte ≡ lastByte (routeOf hold source (channel c 1)) m (s .transfers) → (m' : List ℕ) → m' ≡ carriedBy (routeOf hold source (channel c 1)) m (s .transfers)
+  pub copy-answer : (s : Span) → s ≡ copySpan count limit eop → 0 < s .transfers → (source : Channel) → source ≡ channel c 0 → (target : Channel) → target ≡ channel c 1
+      → (hold : Bool) → hold ≡ addressHold (c .command) → (b : Bits) → b ≡ bitsOf c → (l : Copied) → l ≡ copyLegOf (c .edition) source target b hold (s .transfers) eop
+      → (byte : ℕ) → byte ≡ lastByte (routeOf hold source target) m (s .transfers) → (m' : List ℕ) → m' ≡ carriedBy (routeOf hold source target) m (s .transfers)
       → (stays : Bool) → stays ≡ staysOpen (s .why) → (x : Controller) → x ≡ afterCopy c l byte stays
       → (k₀ : Counts) → k₀ ≡ none → (k : Counts) → k ≡ plus k₀ (counts (s .transfers) 0 0 (s .transfers * copyPace))
       → (a : Ran) → a ≡ record { controller = x; answer = Stopped (s .why); counts = k } → given a m' r ≡ stopped ran
   unfolding stopped
-  copy-answer s e some source es hold eh b eb l el byte ey m' em stays et x ex k₀ e₀ k ek a ea =
+  copy-answer s e some source es target eg hold eh b eb l el byte ey m' em stays et x ex k₀ e₀ k ek a ea =
       let n = s .transfers in
       let last = led n (staysOpen (s .why)) in
-      rw (ea, ex, el, ey, em, et, eb, eh, es, ek, e₀)
+      rw (ea, ex, el, ey, em, et, eb, eh, es, eg, ek, e₀)
       (ap (λ (q : Counts). given (record { controller = last .controller; answer = Stopped (s .why); counts = q }) (last .memory) r) (none-plus (counts n 0 0 (n * copyPace)))
       ∙ ap stopped (sym (copy-led s e .some some)))

@@ -350,12 +350,12 @@ module _ (k : ℕ) (d : List ℕ) (size : ℕ) (o : Close) (f : Facts) (s : Cont
 
   -- a lone transfer
   module _ (count address : ℕ) (ec : count ≡ ch .count) (hc : count < 65536) (ea : address ≡ ch .address) (ha : address < 65536) (single : Bool) (es : single ≡ isSingle (ch .mode)) (l : Alone) (m' r' : List ℕ)
-      (el : l .made ≡ madeAlone ((single && not (eqb count 0)) && not (eqb q (f .copier))) (ch .mode) (length d - n .used) (length r - n .written))
+      (el : l .made ≡ madeAlone (single && (not (eqb count 0) && not (eqb q (f .copier)))) (ch .mode) (length d - n .used) (length r - n .written))
       (eu : l .used ≡ n .used + when (l .made && isWrite (ch .mode)) 1 0) (ew : l .written ≡ n .written + when (l .made && isRead (ch .mode)) 1 0)
       (em : m' ≡ when (l .made && isWrite (ch .mode)) (spread (steps 16 (decrement (ch .mode)) address) (λ (x : ℕ). x) (drop (n .used) d) m 1) m)
       (er : r' ≡ when (l .made && isRead (ch .mode)) (take (n .written) r ++ spread (λ (x : ℕ). x) (steps 16 (decrement (ch .mode)) address) m (drop (n .written) r) 1) r) where
     abbrev may : Bool
-    may = (single && not (eqb count 0)) && not (eqb q (f .copier))
+    may = single && (not (eqb count 0) && not (eqb q (f .copier)))
 
     -- none was made: all is as it was
     pub looping-still : l .made ≡ false → Looping k d size o f s services (counts (n .transfers) (l .used) (l .written) (n .states)) nexts longs i left m' r'
@@ -373,19 +373,19 @@ module _ (k : ℕ) (d : List ℕ) (size : ℕ) (o : Close) (f : Facts) (s : Cont
       may-is : may ≡ true
       may-is = may-be may (ch .mode) _ _ here
 
-      first-two : single && not (eqb count 0) ≡ true
-      first-two = both-left (single && not (eqb count 0)) (not (eqb q (f .copier))) may-is
+      last-two : not (eqb count 0) && not (eqb q (f .copier)) ≡ true
+      last-two = both-right single (not (eqb count 0) && not (eqb q (f .copier))) may-is
 
       no-copier : q ≡ f .copier → ⊥
-      no-copier = eqb-false _ _ (not-true _ (both-right (single && not (eqb count 0)) (not (eqb q (f .copier))) may-is))
+      no-copier = eqb-false _ _ (not-true _ (both-right (not (eqb count 0)) (not (eqb q (f .copier))) last-two))
 
       some-count : ch .count ≡ 0 → ⊥
-      some-count z = eqb-false _ _ (not-true _ (both-right single (not (eqb count 0)) first-two)) (ec ∙ z)
+      some-count z = eqb-false _ _ (not-true _ (both-left (not (eqb count 0)) (not (eqb q (f .copier))) last-two)) (ec ∙ z)
 
       run-is : runNext (course (resting s i) m r services all) d
           ≡ stop (world (resting (withChannel s q (stepped ch)) q) (stored ch (drop (n .used) d) m 1) (loaded ch m (drop (n .written) r) 1) (countsOf ch 1 (pace (s .command) + 1))) Ended
       run-is =
-          turn-alone s i q resting-now m d r services all who' (rw (sym ea) ha) (rw (sym ec) hc) (serves-device s i q f (g .facts) no-copier) (sym es ∙ both-left single (not (eqb count 0)) first-two) some-count
+          turn-alone s i q resting-now m d r services all who' (rw (sym ea) ha) (rw (sym ec) hc) (serves-device s i q f (g .facts) no-copier) (sym es ∙ both-left single (not (eqb count 0) && not (eqb q (f .copier))) may-is) some-count
           (found-some ch may (length d - n .used) (length r - n .written) here)
 
       memory-is : stored ch (drop (n .used) d) m 1 ≡ m'

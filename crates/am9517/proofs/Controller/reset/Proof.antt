@@ -1,6 +1,7 @@
 use Rattle.am9517.specs.declared.Answer.the-variants.{Done}
 use Rattle.am9517.proofs.RefusalLaws.{stated}
 use mathlib.Core.Path.{refl, sym}
+use mathlib.Core.Logic.{⊎-elim}
 use borrow.Author.Tests.{eq-eqb, ne-eqb}
 use borrow.Author.Needs.{needs}
 use Rattle.words.specs.Choice.{when}
@@ -10,11 +11,10 @@ use Rattle.am9517.proofs.Controller.reset.Tie as tie
 
 returns : tie.Need-returns
 unfolding outcome when
-returns c = stated _ _ _ _ Done refl (simp (c .refused .ensures, sym (c .before .before .reset-refusal .ensures), ne-eqb _ _ (c .before .if1 .taken)))
-
-returns-2 : tie.Need-returns-2
-unfolding outcome when
-returns-2 c = stated _ _ _ _ Done refl (simp (sym (c .before .before .reset-refusal .ensures), eq-eqb _ _ (c .before .if1 .left), c .cleared .ensures))
+returns c = let e = sym (c .before .before .reset-refusal .ensures) in
+    stated _ _ _ _ Done refl (
+    ⊎-elim (λ w. simp (c .answered .ensures, e, eq-eqb _ _ (w .0 .taken), w .2, w .1 .ensures))
+    (λ w. simp (c .answered .ensures, e, ne-eqb _ _ (w .0 .left), w .1)) (c .before .if1 .came))
 
 pub reset-spec : {M : Type 1} → statement M
-reset-spec = tie.close (tie.spec (search needs) (search needs) returns (search needs) returns-2)
+reset-spec = tie.close (tie.spec (search needs) (search needs) (search needs) returns)

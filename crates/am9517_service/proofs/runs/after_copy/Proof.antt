@@ -8,4 +8,5 @@ returns c =
     simp (at-pre .pre, c .when3 .ensures, at-when2 .when2 .ensures, at-when .when .ensures)
 
 pub after-copy-spec : {M : Type 1} → statement M
-after-copy-spec = tie.close (tie.spec (search needs) (search needs) (search needs) (search needs) (search needs) (search needs) returns)
+after-copy-spec = tie.close (tie.spec (search needs) (search needs) (search needs) (search needs) (search needs) (search needs) (search needs)
+    (search needs) returns)
