@@ -1,8 +1,9 @@
 //! The line protocol: one console, which answers each command line with one line.
 
+use crate::faults::{self, Fault};
 use crate::round::{RoundStop, RoundTally};
 use crate::run::{Stop, Tally};
-use crate::state::{Controller, Refusal, BODY_LENGTH};
+use crate::state::{Controller, Refusal, AM9517A, BODY_LENGTH, FULL_LENGTH, INTEL};
 use std::collections::VecDeque;
 use std::io::{self, BufRead, Write};
 
@@ -74,7 +75,10 @@ impl Console {
         match words {
             [b"state"] => Ok(format!("state {}", to_hex(&self.controller.body()))),
             [b"state", hex] => self.take_state(&bytes(hex)?),
-            [b"fresh"] => self.take(Controller::fresh()),
+            [b"full"] => Ok(format!("full {}", to_hex(&self.controller.full()))),
+            [b"full", hex] => self.take_full(&bytes(hex)?),
+            [b"fresh"] => self.fresh(AM9517A),
+            [b"fresh", edition] => self.fresh(edition_of(edition)?),
             [b"write", register, value] => self.write(number32(register)?, byte(value)?),
             [b"read", register] => self.read(number32(register)?),
             [b"pins", levels] => self.pins(number32(levels)?),
@@ -100,9 +104,30 @@ impl Console {
         ok()
     }
 
+    /// "`state HEX` sets the 48 and leaves edition and waits".
     fn take_state(&mut self, given: &[u8]) -> Answer {
         let body: &[u8; BODY_LENGTH] = given.try_into().map_err(|_| Fail::Error)?;
-        self.take(Controller::from_body(body))
+        let mut next = Controller::from_body(body);
+        if !faults::on(Fault::StateDropsEdition) {
+            next.edition = self.controller.edition;
+        }
+        self.take(next)
+    }
+
+    /// "the state is now these 50 bytes, taken with no range check"; the waits are "00 before A3".
+    fn take_full(&mut self, given: &[u8]) -> Answer {
+        let full: &[u8; FULL_LENGTH] = given.try_into().map_err(|_| Fail::Error)?;
+        self.take(Controller::from_full(full).ok_or(Fail::Error)?)
+    }
+
+    /// "a fresh state of edition E, 0 (also when E is missing) Am9517A or 1 Intel".
+    fn fresh(&mut self, edition: u8) -> Answer {
+        let edition = match faults::chosen() {
+            Some(Fault::FreshDropsEdition) => AM9517A,
+            Some(Fault::FreshKeepsEdition) if edition == AM9517A => self.controller.edition,
+            _ => edition,
+        };
+        self.take(Controller::fresh_of(edition))
     }
 
     fn write(&mut self, register: u32, value: u8) -> Answer {
@@ -197,7 +222,13 @@ impl Console {
     }
 
     fn load(&mut self, given: &[u8]) -> Answer {
-        let next = Controller::read_sheet(given)?;
+        if faults::on(Fault::IntelLoadRefused) && self.controller.is_intel() {
+            return Err(Fail::Refused(Refusal::NoPlace));
+        }
+        let mut next = Controller::read_sheet(given)?;
+        if faults::on(Fault::LoadKeepsEdition) {
+            next.edition = self.controller.edition;
+        }
         self.take(next)
     }
 }
@@ -275,6 +306,12 @@ fn number32(word: &[u8]) -> Result<u32, Fail> {
 /// "a byte over 255" is `error`.
 fn byte(word: &[u8]) -> Result<u8, Fail> {
     u8::try_from(number(word)?).map_err(|_| Fail::Error)
+}
+
+/// "E over 1 is `error`".
+fn edition_of(word: &[u8]) -> Result<u8, Fail> {
+    let value = at_most(number(word)?, usize::from(INTEL))?;
+    Ok(value as u8)
 }
 
 fn at_most(value: u64, most: usize) -> Result<usize, Fail> {

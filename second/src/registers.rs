@@ -1,7 +1,7 @@
-//! Register writes and reads (document 01, "Registers (000, figure 4)").
+//! Register writes and reads (document 01, "Registers (000, figure 4)"; document 02, A2).
 
 use crate::faults::{self, Fault};
-use crate::state::{mode_is_refused, Channel, Controller, Refusal};
+use crate::state::{mode_is_refused, Channel, Controller, Refusal, AM9517A};
 
 impl Controller {
     /// Write `byte` to a register. "When several hold: write 1, 2, 3, 4, 5".
@@ -10,7 +10,9 @@ impl Controller {
         if register > 15 {
             return Err(Refusal::TooLarge);
         }
-        self.refuse_during_service()?;
+        if !self.passes_in_service(register) {
+            self.refuse_during_service()?;
+        }
         match register {
             0..=7 => Ok(self.write_half(register as usize, byte)),
             8 => Ok(Controller { command: byte, ..self }),
@@ -19,9 +21,8 @@ impl Controller {
             0xB => self.write_mode(byte),
             // "C write clears the flip-flop."
             0xC => Ok(Controller { flip_flop: 0, ..self }),
-            // "D write: master clear, as reset."
-            0xD => Ok(self.cleared()),
-            0xE => Err(Refusal::IllegalRegister),
+            0xD => Ok(self.master_clear()),
+            0xE => self.clear_mask(byte),
             // "F write: bits 3-0 become the mask."
             _ => Ok(Controller { mask: byte & 15, ..self }),
         }
@@ -39,6 +40,7 @@ impl Controller {
             8 => self.read_status(),
             // "D read: temporary byte."
             0xD => (self, self.temporary),
+            0xE if self.is_intel() && faults::on(Fault::IntelReadsE) => (self, self.mask),
             // "read of 9, A, B, C, E, F"
             _ => return Err(Refusal::IllegalRegister),
         };
@@ -90,6 +92,47 @@ impl Controller {
             }
         }
         (Controller { tc: 0, ..self }, byte)
+    }
+
+    /// "D write: master clear, as reset."
+    fn master_clear(self) -> Controller {
+        let mut next = self.cleared();
+        if faults::on(Fault::MasterClearDropsEdition) {
+            next.edition = AM9517A;
+        }
+        next
+    }
+
+    /// Document 02, A2, of the Intel edition: "There, a write of register E clears all four mask
+    /// bits"; "Refusal 4 no longer covers that write there." The byte has no say: such commands "do
+    /// not depend on any specific bit pattern on the data bus" (001).
+    fn clear_mask(self, byte: u8) -> Result<Controller, Refusal> {
+        if !self.has_clear_mask() {
+            return Err(Refusal::IllegalRegister);
+        }
+        let mut next = Controller { mask: 0, ..self };
+        match faults::chosen() {
+            Some(Fault::ETakesByte) => next.mask = byte & 15,
+            Some(Fault::ESetsMask) => next.mask = 15,
+            Some(Fault::EClearsOne) => next.mask = self.mask & !(1 << (byte & 3)),
+            Some(Fault::ETurnsFlipFlop) => next.flip_flop = 1 - self.flip_flop,
+            Some(Fault::EClearsFlipFlop) => next.flip_flop = 0,
+            _ => {}
+        }
+        Ok(next)
+    }
+
+    fn has_clear_mask(self) -> bool {
+        match faults::chosen() {
+            Some(Fault::IntelRefusesE) => false,
+            Some(Fault::BothTakeE) => true,
+            _ => self.is_intel(),
+        }
+    }
+
+    /// Never so, but for one of the faults.
+    fn passes_in_service(self, register: u32) -> bool {
+        register == 0xE && self.is_intel() && faults::on(Fault::EInService)
     }
 
     /// "B write: mode of channel (bits 1-0); stored with these two bits zero."

@@ -1,5 +1,5 @@
 //! A run of one service (document 01, "A run of one service", "Memory-to-memory" and "Working
-//! states"; document 02, A1), one transfer at a time.
+//! states"; document 02, A1 and A2), one transfer at a time.
 
 use crate::faults::{self, Fault};
 use crate::state::{Channel, Controller, Mode, Refusal, Type, MEMORY_LENGTH};
@@ -184,6 +184,9 @@ impl Service<'_> {
         } else if self.is_single(number) {
             // "Outside memory-to-memory, a single service ends after each transfer in any case."
             self.controller = self.controller.with_service_ended();
+            if self.controller.is_intel() && faults::on(Fault::IntelSingleSetsTc) {
+                self.controller.tc |= 1 << number;
+            }
         }
     }
 
@@ -262,17 +265,35 @@ impl Service<'_> {
         before == 0
     }
 
-    /// "TC sets the TC bit. External EOP alone does not (000)."
+    /// "TC sets the TC bit."
     fn set_tc_bit(&mut self, number: usize, tc: bool, meets_eop: bool) {
-        let mut sets = tc;
-        if faults::on(Fault::EopSetsTc) {
-            sets |= meets_eop;
+        if tc && meets_eop && faults::on(Fault::EopHidesTc) {
+            return;
         }
-        if faults::on(Fault::EopHidesTc) {
-            sets &= !meets_eop;
-        }
-        if sets {
+        if tc {
             self.controller.tc |= 1 << number;
+        }
+        if meets_eop {
+            self.controller.tc |= self.tc_bits_of_eop(number);
+        }
+    }
+
+    /// "External EOP alone does not (000)." Document 02, A2, of the Intel edition: "external EOP
+    /// sets the TC bit of the channel whose count is being run (channel 1 in memory-to-memory)",
+    /// whatever its mode, with autoinitialize too.
+    fn tc_bits_of_eop(&self, number: usize) -> u8 {
+        let bit = if self.controller.is_intel() { 1 << number } else { 0 };
+        let channel = self.controller.channels[number];
+        let pair = self.is_memory_to_memory();
+        match faults::chosen() {
+            Some(Fault::EopSetsTc) => 1 << number,
+            Some(Fault::IntelEopKeepsTc) => 0,
+            Some(Fault::IntelRestoreKeepsTc) if channel.autoinitializes() => 0,
+            Some(Fault::IntelSingleKeepsTc) if !pair && channel.kind() == Mode::Single => 0,
+            Some(Fault::IntelPairKeepsTc) if pair => 0,
+            Some(Fault::IntelEopSetsZero) if pair => bit >> 1,
+            Some(Fault::IntelEopSetsBoth) if pair => bit | bit >> 1,
+            _ => bit,
         }
     }
 

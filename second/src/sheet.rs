@@ -1,4 +1,4 @@
-//! The stored sheet, form 1 (document 01, "The stored sheet").
+//! The stored sheet, form 1 (document 01, "The stored sheet"; document 02, A2).
 
 use crate::faults::{self, Fault};
 use crate::state::{Controller, Refusal, BODY_LENGTH};
@@ -7,14 +7,30 @@ use crate::state::{Controller, Refusal, BODY_LENGTH};
 pub const SHEET_LENGTH: usize = 56;
 
 impl Controller {
-    /// Write the sheet into the last 56 bytes; "the rest isn't touched". "sheet writing 1, 9".
+    /// Write the sheet into the last 56 bytes; "the rest isn't touched". "sheet writing 1, 9";
+    /// document 02, A2: "writing such a state is refusal 15, after 1 and 9".
     pub fn write_sheet(self, slice: &mut [u8]) -> Result<(), Refusal> {
+        if faults::on(Fault::FifteenBeforeOne) && slice.len() >= SHEET_LENGTH {
+            self.refuse_intel()?;
+        }
         self.refuse_broken()?;
+        if faults::on(Fault::FifteenBeforeNine) {
+            self.refuse_intel()?;
+        }
         if slice.len() < SHEET_LENGTH {
             return Err(Refusal::ShortSlice);
         }
+        self.refuse_intel()?;
         let start = slice.len() - SHEET_LENGTH;
         slice[start..].copy_from_slice(&self.sheet());
+        Ok(())
+    }
+
+    /// "Form 1 has no place for the edition".
+    fn refuse_intel(self) -> Result<(), Refusal> {
+        if self.is_intel() && !faults::on(Fault::IntelSheetWritten) {
+            return Err(Refusal::NoPlace);
+        }
         Ok(())
     }
 
@@ -31,7 +47,7 @@ impl Controller {
     }
 
     /// Read a sheet. "sheet reading 9 to 14 in order"; "10 end mark; 11 first two trailer bytes; 12
-    /// distance; 13 sum; 14 range".
+    /// distance; 13 sum; 14 range". The state read is an Am9517A's.
     pub fn read_sheet(slice: &[u8]) -> Result<Controller, Refusal> {
         if slice.len() < SHEET_LENGTH || faults::on(Fault::RefusesAlways) {
             return Err(Refusal::ShortSlice);

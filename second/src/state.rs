@@ -1,24 +1,33 @@
-//! The controller's state, its 48 body bytes, its ranges, and the refusal numbers
-//! (document 01, "The controller's state", "Refusal numbers" and "The stored sheet").
+//! The controller's state with its edition, its 48 body bytes, its ranges, and the refusal numbers
+//! (document 01, "The controller's state", "Refusal numbers" and "The stored sheet"; document 02,
+//! A2).
 
 use crate::faults::{self, Fault};
 
 /// "Body, 48 bytes".
 pub const BODY_LENGTH: usize = 48;
+/// "edition, waits (00 before A3), the 48 body bytes".
+pub const FULL_LENGTH: usize = 2 + BODY_LENGTH;
 /// "memory not of 65,536 bytes" is refusal 7.
 pub const MEMORY_LENGTH: usize = 65_536;
+
+/// The edition "ours".
+pub const AM9517A: u8 = 0;
+/// The edition of "Intel 8237A parts".
+pub const INTEL: u8 = 1;
 
 /// Why an operation is refused; the number is document 01's.
 #[derive(Clone, Copy, Debug, PartialEq, Eq)]
 #[repr(u8)]
 pub enum Refusal {
-    /// "the state breaks a range of the sheet section"
+    /// "the state breaks a range of the sheet section"; an edition over 1 is one of these.
     BrokenState = 1,
     /// "register number over 15, pins over 15, or more than 4,096 services asked for"
     TooLarge = 2,
     /// "register access, grant or round during a service"
     DuringService = 3,
-    /// "read of 9, A, B, C, E, F, or write of E"
+    /// "read of 9, A, B, C, E, F, or write of E"; document 02, A2: in the Intel edition it "no
+    /// longer covers that write".
     IllegalRegister = 4,
     /// "mode byte with bits 3-2 = 11 and bits 7-6 not 11"
     IllegalMode = 5,
@@ -40,6 +49,8 @@ pub enum Refusal {
     Sum = 13,
     /// "14 range"
     Range = 14,
+    /// Document 02, A2: "Form 1 has no place for the edition: writing such a state is refusal 15".
+    NoPlace = 15,
 }
 
 impl Refusal {
@@ -119,10 +130,12 @@ pub fn mode_is_refused(byte: u8) -> bool {
     byte & 0x0C == 0x0C && byte & 0xC0 != 0xC0
 }
 
-/// The whole state. Every field is as wide as its place in the body, so that any 48 bytes are a
-/// state; those that break a range are refused by every operation (1).
+/// The whole state. Every field is as wide as its place in the body, so that an edition and any 48
+/// bytes are a state; those that break a range are refused by every operation (1).
 #[derive(Clone, Copy, Debug, PartialEq, Eq)]
 pub struct Controller {
+    /// "chosen when a state is made and kept in it through reset"
+    pub edition: u8,
     pub channels: [Channel; 4],
     pub command: u8,
     pub tc: u8,
@@ -139,9 +152,16 @@ pub struct Controller {
 }
 
 impl Controller {
-    /// "A fresh state is all zero but for the mask (15) and lowest channel (3)."
+    /// A fresh Am9517A.
     pub fn fresh() -> Controller {
+        Controller::fresh_of(AM9517A)
+    }
+
+    /// "A fresh state is all zero but for the mask (15) and lowest channel (3)." Its edition is
+    /// "chosen when a state is made".
+    pub fn fresh_of(edition: u8) -> Controller {
         Controller {
+            edition,
             channels: [Channel::ZERO; 4],
             command: 0,
             tc: 0,
@@ -162,10 +182,14 @@ impl Controller {
     /// bits and ends any service (000); lowest becomes 3; addresses, counts, modes and pins stay".
     pub fn reset(self) -> Result<Controller, Refusal> {
         self.refuse_broken()?;
-        Ok(self.cleared())
+        let mut next = self.cleared();
+        if faults::on(Fault::ResetDropsEdition) {
+            next.edition = AM9517A;
+        }
+        Ok(next)
     }
 
-    /// What reset and master clear do.
+    /// What reset and master clear do. The edition is "kept in it through reset".
     pub fn cleared(self) -> Controller {
         let mut next = self.with_service_ended();
         next.command = 0;
@@ -192,6 +216,14 @@ impl Controller {
             Ok(levels) if levels <= 15 => Ok(Controller { pins: levels, ..self }),
             _ => Err(Refusal::TooLarge),
         }
+    }
+
+    /// Is it of the Intel edition?
+    pub fn is_intel(self) -> bool {
+        if faults::on(Fault::EditionTwoIsIntel) {
+            return self.edition != AM9517A;
+        }
+        self.edition == INTEL
     }
 
     pub fn in_service(self) -> bool {
@@ -227,7 +259,16 @@ impl Controller {
             self.in_service != 0 || (self.serving == 0 && self.latch_full == 0 && self.latch == 0);
         // "46 zero means 47 zero"
         let latch = self.latch_full != 0 || self.latch == 0;
-        modes && fours && marks && numbers && idle && latch
+        modes && fours && marks && numbers && idle && latch && self.edition_holds()
+    }
+
+    /// The editions are two: 0 and 1.
+    fn edition_holds(self) -> bool {
+        match faults::chosen() {
+            Some(Fault::EditionUnchecked) => true,
+            Some(Fault::EditionTwoIsIntel) => self.edition <= 2,
+            _ => self.edition <= INTEL,
+        }
     }
 
     /// The 48 body bytes, "numbers low byte first".
@@ -256,7 +297,7 @@ impl Controller {
         body
     }
 
-    /// The state these 48 bytes stand for, with no range check.
+    /// The Am9517A state these 48 bytes stand for, with no range check.
     pub fn from_body(body: &[u8; BODY_LENGTH]) -> Controller {
         let mut channels = [Channel::ZERO; 4];
         for (number, channel) in channels.iter_mut().enumerate() {
@@ -268,6 +309,7 @@ impl Controller {
             channel.mode = body[at + 8];
         }
         Controller {
+            edition: AM9517A,
             channels,
             command: body[36],
             tc: body[37],
@@ -282,6 +324,25 @@ impl Controller {
             latch_full: body[46],
             latch: body[47],
         }
+    }
+
+    /// "edition, waits (00 before A3), the 48 body bytes".
+    pub fn full(self) -> [u8; FULL_LENGTH] {
+        let mut full = [0; FULL_LENGTH];
+        full[0] = self.edition;
+        full[2..].copy_from_slice(&self.body());
+        full
+    }
+
+    /// The state these 50 bytes stand for, with no range check; None where the second is not 00,
+    /// for which a state has no place yet.
+    pub fn from_full(full: &[u8; FULL_LENGTH]) -> Option<Controller> {
+        if full[1] != 0 && !faults::on(Fault::FullTakesWaits) {
+            return None;
+        }
+        let mut body = [0; BODY_LENGTH];
+        body.copy_from_slice(&full[2..]);
+        Some(Controller { edition: full[0], ..Controller::from_body(&body) })
     }
 }
 

@@ -11,9 +11,9 @@ const READ_BLOCK: u8 = 0x88;
 const PIECE: usize = 64;
 
 impl Writer {
-    /// State, memory, room, write position and queue.
+    /// State with its edition, memory, room, write position and queue.
     pub fn write_end(&mut self) {
-        self.say_plainly("state");
+        self.say_plainly("full");
         self.say_plainly(&format!("peek 0 {ARRAY_LENGTH}"));
         let room = self.console.room.len();
         self.say_plainly(&format!("out 0 {room}"));
@@ -48,17 +48,18 @@ impl Writer {
         }
     }
 
-    /// A service of channel 0 from address 0, count FFFFh.
+    /// A service of channel 0 from address 0, count FFFFh, whatever edition was there before.
     fn open_long_service(&mut self, mode: u8) {
         let mut open = Controller::fresh();
         open.in_service = 1;
         open.channels[0].current_count = 0xFFFF;
         open.channels[0].mode = mode;
-        self.say_plainly(&format!("state {}", to_hex(&open.body())));
+        self.say_plainly(&format!("full {}", to_hex(&open.full())));
     }
 }
 
 /// Lines that bring a console whose queue is empty and whose memory is `memory` to its start.
+/// `fresh` brings edition 0 back.
 pub fn lines_between(memory: &[u8]) -> Vec<Line> {
     let mut lines = vec![plain("fresh"), plain("memory 65536"), plain("room 0 0")];
     let mut start = 0;

@@ -2,6 +2,7 @@
 
 pub mod comparison;
 pub mod damage;
+pub mod editions;
 pub mod ending;
 pub mod forms;
 pub mod pairs;
@@ -9,7 +10,6 @@ pub mod program;
 pub mod random;
 pub mod report;
 pub mod scenes;
-
 pub mod shrink;
 pub mod sides;
 pub mod values;

@@ -222,7 +222,7 @@ impl Writer {
                 return;
             }
             match self.random.below(10) {
-                0..=1 => self.say(&[Name("state")]),
+                0..=1 => self.show_state(),
                 2 => self.pins(),
                 _ => {}
             }

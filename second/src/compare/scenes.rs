@@ -24,6 +24,7 @@ impl Writer {
     fn write_body(&mut self) {
         self.budget = [2_500, 15_000, 210_000][self.random.weighted(&[80, 14, 6])];
         let length = self.random.between(6, 60) as usize;
+        self.choose_editions();
         if self.random.chance(70) {
             self.prepare_memory_and_device();
         }
@@ -47,6 +48,9 @@ impl Writer {
         if self.console.lent != 65_536 && self.random.chance(40) {
             return self.say(&[Name("memory"), Number(65_536)]);
         }
+        if self.has_lost_its_edition() && self.random.chance(25) {
+            return self.change_edition();
+        }
         if !self.controller().ranges_hold() {
             self.step_while_broken()
         } else if self.controller().in_service() {
@@ -59,7 +63,7 @@ impl Writer {
     fn step_while_broken(&mut self) {
         match self.random.below(10) {
             0..=3 => self.any_operation(),
-            4 => self.say(&[Name("fresh")]),
+            4 => self.fresh(),
             5 => self.load(),
             _ => self.set_state(),
         }
@@ -68,7 +72,7 @@ impl Writer {
     fn step_in_service(&mut self) {
         // A cascade service only waits for its line to go.
         let run = if self.waits_in_cascade() { 15 } else { 55 };
-        match self.random.weighted(&[run, 18, 10, 4, 3, 3, 8, 2, 3, 1, 2]) {
+        match self.random.weighted(&[run, 18, 10, 4, 3, 3, 8, 2, 3, 1, 2, 2, 3]) {
             0 => self.run(),
             1 => self.pins(),
             2 => self.device(),
@@ -79,7 +83,9 @@ impl Writer {
             7 => self.say(&[Name("reset")]),
             8 => self.look_or_poke(),
             9 => self.set_broken_state(),
-            _ => self.lend_memory(),
+            10 => self.lend_memory(),
+            11 => self.clear_mask(),
+            _ => self.scene_of_editions(),
         }
     }
 
@@ -91,7 +97,7 @@ impl Writer {
 
     fn step_idle(&mut self) {
         let scenes = [22, 13, 18, 16];
-        let others = [3, 6, 15, 8, 10, 6, 10, 2, 2, 4, 3, 5, 2, 6, 1];
+        let others = [3, 6, 15, 8, 10, 6, 10, 2, 2, 4, 3, 5, 2, 6, 1, 14, 8];
         match self.random.weighted(&[&scenes[..], &others[..]].concat()) {
             0 => self.scene_of_one_service(),
             1 => self.scene_of_memory_to_memory(),
@@ -111,7 +117,9 @@ impl Writer {
             15 => self.look_or_poke(),
             16 => self.lend_memory(),
             17 => self.any_operation(),
-            _ => self.read_everything(),
+            18 => self.read_everything(),
+            19 => self.scene_of_editions(),
+            _ => self.scene_of_eop(),
         }
     }
 
@@ -121,14 +129,14 @@ impl Writer {
             0..=5 => self.faulty_line(),
             6..=7 => self.blank_line(),
             8 if self.random.chance(10) => self.full_device(),
-            8 => self.say(&[Name("state")]),
+            8 => self.show_state(),
             _ if self.odd => self.odd_line(),
             _ => self.look_or_poke(),
         }
     }
 
     /// Any operation, whatever the state: most are refused.
-    fn any_operation(&mut self) {
+    pub fn any_operation(&mut self) {
         match self.random.below(10) {
             0 => self.write_some_register(),
             1 => self.read_some_register(),
@@ -139,7 +147,7 @@ impl Writer {
             6 => self.round(),
             7 => self.sheet(),
             8 => self.master_clear(),
-            _ => self.say(&[Name("fresh")]),
+            _ => self.fresh(),
         }
     }
 
@@ -152,7 +160,7 @@ impl Writer {
         self.say(&[Name("write"), Number(register), Number(u64::from(byte))]);
     }
 
-    fn master_clear(&mut self) {
+    pub fn master_clear(&mut self) {
         let byte = self.random.byte();
         self.write(0xD, byte);
     }
@@ -175,7 +183,7 @@ impl Writer {
             }
             5 => self.write(0xC, byte),
             6 => self.write(0xD, byte),
-            7 => self.write(0xE, byte),
+            7 => self.clear_mask(),
             8 => self.write(0xF, byte),
             _ => {
                 let register = self.random.pick(&[15, 16, 17, 24, 255, 256, 0xFFFF_FFFF]);
@@ -303,7 +311,7 @@ impl Writer {
     }
 
     /// Bytes or room about as many as the channel's count asks for.
-    fn provide_for(&mut self, number: usize) {
+    pub fn provide_for(&mut self, number: usize) {
         let channel = self.controller().channels[number];
         let wanted = self.near(u64::from(channel.current_count) + 1);
         match channel.transfer_type() {
@@ -427,18 +435,29 @@ impl Writer {
             limit = self.random.below(little + 1);
         }
         self.say(&[Name("run"), Number(limit), Number(eop)]);
+        if eop != 0 && self.controller().is_intel() && self.random.chance(20) {
+            self.show_full();
+        }
     }
 
-    /// Limits and EOP fall near TC; in memory-to-memory, where channel 0's count passes 0 as well.
+    /// Limits and EOP fall near TC; in memory-to-memory, where channel 0's count passes 0 as well;
+    /// in single mode, at the only transfer.
     fn aim(&mut self, most: u64) -> u64 {
-        if self.serves_a_pair() && self.random.chance(40) {
+        if !self.random.chance(40) {
+            return most;
+        }
+        let now = self.controller();
+        if self.serves_a_pair() {
             return self.transfers_to_a_passing();
         }
-        most
+        match now.channels[usize::from(now.serving & 3)].kind() {
+            Mode::Single => 1,
+            _ => most,
+        }
     }
 
     /// How far the serving channel is from TC, and how far the device goes with it.
-    fn transfers_to_tc(&self) -> (u64, u64) {
+    pub fn transfers_to_tc(&self) -> (u64, u64) {
         let now = self.controller();
         let number = usize::from(now.serving & 3);
         if self.serves_a_pair() {
@@ -464,7 +483,9 @@ impl Writer {
     }
 
     fn eop(&mut self, most: u64, limit: u64) -> u64 {
-        match self.random.below(24) {
+        // In the Intel edition, more often one.
+        let first = if self.controller().is_intel() { 6 } else { 0 };
+        match self.random.between(first, 23) {
             0..=10 => 0,
             12 => 1,
             13 => 2,
@@ -479,17 +500,22 @@ impl Writer {
         }
     }
 
-    fn set_state(&mut self) {
-        let heavy = self.heavy();
-        let state = values::state(&mut self.random, heavy);
+    pub fn set_state(&mut self) {
+        let state = self.some_state();
         self.say_state(state);
     }
 
-    fn set_broken_state(&mut self) {
+    /// A state made anew, in an edition of this script's.
+    fn some_state(&mut self) -> Controller {
         let heavy = self.heavy();
+        let state = values::state(&mut self.random, heavy);
+        Controller { edition: self.some_edition(), ..state }
+    }
+
+    fn set_broken_state(&mut self) {
         let mut state = self.controller();
         if self.random.chance(50) {
-            state = values::state(&mut self.random, heavy);
+            state = self.some_state();
         }
         for _ in 0..self.random.between(1, 2) {
             values::break_range(&mut self.random, &mut state);
@@ -498,10 +524,9 @@ impl Writer {
         for _ in 0..self.random.below(4) {
             self.any_operation();
         }
-    }
-
-    pub fn say_state(&mut self, state: Controller) {
-        self.say(&[Name("state"), Hex(state.body().to_vec())]);
+        if self.random.chance(25) {
+            self.sheet();
+        }
     }
 
     fn sheet(&mut self) {
@@ -512,7 +537,7 @@ impl Writer {
         self.say(&[Name("sheet"), Number(length)]);
     }
 
-    fn load(&mut self) {
+    pub fn load(&mut self) {
         let heavy = self.heavy();
         let now = self.controller();
         let sheet = values::sheet(&mut self.random, &now, heavy);

@@ -83,7 +83,7 @@ fn smaller_lines(line: &[u8]) -> Vec<Text> {
 
 fn smaller_words(command: &str, index: usize, word: &str) -> Vec<String> {
     let is_hex = match command {
-        "state" | "feed" | "load" => index == 1,
+        "state" | "full" | "feed" | "load" => index == 1,
         "poke" => index == 2,
         _ => false,
     };
@@ -91,7 +91,7 @@ fn smaller_words(command: &str, index: usize, word: &str) -> Vec<String> {
         return smaller_numbers(word);
     }
     match bytes_of(word) {
-        Some(bytes) if command == "state" => with_a_zero(&bytes),
+        Some(bytes) if matches!(command, "state" | "full") => with_a_zero(&bytes),
         Some(bytes) if command == "load" => without_front(&bytes, word),
         Some(bytes) => fewer_bytes(&bytes),
         None => Vec::new(),

@@ -1,5 +1,6 @@
 //! Values near the edges: addresses, counts, modes, commands, whole states, broken states, sheets.
 
+use super::editions::BROKEN_EDITIONS;
 use super::random::Random;
 use crate::sheet::SHEET_LENGTH;
 use crate::state::{Controller, BODY_LENGTH};
@@ -75,7 +76,7 @@ fn four_bits(random: &mut Random) -> u8 {
     random.below(16) as u8
 }
 
-/// A state that keeps every range, idle or in service.
+/// An Am9517A state that keeps every range, idle or in service.
 pub fn state(random: &mut Random, heavy: bool) -> Controller {
     let mut state = Controller::fresh();
     for number in 0..4 {
@@ -129,7 +130,7 @@ pub fn break_range(random: &mut Random, state: &mut Controller) {
     let wide = random.pick(&[16u8, 16, 17, 0x80, 0xF0, 0xFF]);
     let mark = random.pick(&[2u8, 2, 3, 0x80, 0xFF]);
     let channel = &mut state.channels[random.below(4) as usize];
-    match random.below(17) {
+    match random.below(19) {
         0 => channel.mode |= random.pick(&[1, 2, 3]),
         1 => channel.mode = random.pick(&[0x0C, 0x4C, 0x8C, 0x1C, 0x6C, 0xBC]),
         2 => state.tc = wide,
@@ -146,6 +147,7 @@ pub fn break_range(random: &mut Random, state: &mut Controller) {
         13 => (state.in_service, state.latch) = (0, random.byte()),
         14 => (state.in_service, state.latch_full, state.latch) = (1, 0, random.byte()),
         15 => (state.tc, state.request, state.mask, state.pins) = (15, 15, 15, 15),
+        16..=17 => state.edition = random.pick(&BROKEN_EDITIONS),
         _ => channel.mode = random.byte(),
     }
 }

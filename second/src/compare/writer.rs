@@ -36,13 +36,15 @@ pub struct Writer {
     pub lines: Vec<Line>,
     /// Transfers this script may still make.
     pub budget: u64,
+    /// Of a hundred states made anew, so many are of the Intel edition.
+    pub intel: u64,
     /// Send lines the protocol leaves open, too.
     pub odd: bool,
 }
 
 impl Writer {
     pub fn new(random: Random, odd: bool) -> Writer {
-        Writer { random, console: Console::new(), lines: Vec::new(), budget: 0, odd }
+        Writer { random, console: Console::new(), lines: Vec::new(), budget: 0, intel: 0, odd }
     }
 
     pub fn finish(self, number: u64) -> Script {

@@ -135,6 +135,35 @@ fn memory_to_memory_goes_byte_by_byte_over_itself() {
     assert_eq!((next.mask, next.channels[0].current_address), (2, 0x44));
 }
 
+/// "latch unused": neither filled nor emptied before the service ends.
+#[test]
+fn memory_to_memory_leaves_the_latch() {
+    let mut open = serving(with_channel(0, 0x1240, 9, READ_BLOCK), 0);
+    open.command = 1;
+    open.channels[1].current_count = 1;
+    assert_eq!(plain_run(open, 1, 0).0.latch_full, 0);
+    let latched = Controller { latch_full: 1, latch: 0x77, ..open };
+    let (cut, ..) = plain_run(latched, 1, 0);
+    assert_eq!((cut.latch_full, cut.latch), (1, 0x77));
+    let (next, ..) = plain_run(cut, 1, 0);
+    assert_eq!((next.in_service, next.latch_full, next.latch), (0, 0, 0));
+}
+
+#[test]
+fn address_hold_is_for_memory_to_memory_only() {
+    let open = Controller { command: 2, ..serving(with_channel(0, 0x40, 3, VERIFY_BLOCK), 0) };
+    assert_eq!(plain_run(open, 2, 0).0.channels[0].current_address, 0x42);
+}
+
+/// "bits 4-7 the requesting channels, masked or not", disabled or not.
+#[test]
+fn a_disabled_chip_shows_who_requests() {
+    for command in [0, 4] {
+        let now = Controller { command, pins: 5, ..Controller::fresh() };
+        assert_eq!(now.read(8).unwrap().1, 0x50);
+    }
+}
+
 #[test]
 fn memory_to_memory_is_channel_0_only() {
     let mut open = serving(with_channel(1, 0x40, 3, SINGLE), 1);

@@ -1,9 +1,11 @@
-//! The cases of document 01, its refusals, its list of errors, document 02's request A1, and the
-//! line protocol.
+//! The cases of document 01, its refusals, its list of errors, document 02's requests A1 and A2, and
+//! the line protocol.
 
 mod cases;
 mod channel_zero;
 mod details;
+mod edition_lines;
+mod editions;
 mod protocol;
 mod refusals;
 mod trade_errors;

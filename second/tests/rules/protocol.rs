@@ -35,7 +35,8 @@ fn errors_of_form() {
     for line in [
         "nothing",
         "Fresh",
-        "fresh 1",
+        "fresh 2",
+        "full 00",
         "write 1",
         "write 1 2 3",
         "write 1 256",
