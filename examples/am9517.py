@@ -10,14 +10,15 @@ def struct(name, fields):
     return type(name, (ctypes.Structure,), {"_fields_": fields})
 
 
-NAMES = "tc request mask pins in_service serving latch_full latch flip_flop lowest temporary command"
+NAMES = "tc request mask pins in_service serving latch_full latch lowest flip_flop edition temporary command"
+AM9517A, INTEL_8237A = 0, 1  # editions
 REASONS = "refused ended dropped cascade limit short done quiet".split()
 Channel = struct("Channel", [*((n, c_uint16) for n in ("base_address", "address", "base_count", "count")), ("mode", c_uint8)])
 Chip = struct("Chip", [("channels", Channel * 4), *((n, c_uint8) for n in NAMES.split())])
 Told = struct("Told", [("refusal", c_uint32), ("value", c_uint32)])
 Ran = struct("Ran", [("refusal", c_uint32), ("reason", c_uint32), ("transfers", c_uint64), ("used", c_size_t), ("written", c_size_t), ("states", c_uint64)])
 AREA = [c_char_p, c_size_t]
-CALLS = {"version": (c_uint32, []), "fresh": (Chip, []), "write": (c_uint32, [POINTER(Chip), c_uint32, c_uint8]),
+CALLS = {"version": (c_uint32, []), "fresh": (Chip, [c_uint32]), "write": (c_uint32, [POINTER(Chip), c_uint32, c_uint8]),
          "pins": (c_uint32, [POINTER(Chip), c_uint32]), "grant": (Told, [POINTER(Chip)]), "status": (Told, [POINTER(Chip)]),
          "run": (Ran, [POINTER(Chip), *AREA, *AREA, *AREA, c_uint64, c_uint64])}
 
@@ -27,13 +28,13 @@ def ok(refusal):
         raise SystemExit("refused %d" % refusal)
 
 
-def main(path="libam9517.so.2"):
+def main(path="libam9517.so.3"):
     library = ctypes.CDLL(path)
     call = {name: ctypes.CFUNCTYPE(result, *arguments)(("am9517_" + name, library)) for name, (result, arguments) in CALLS.items()}
-    if call["version"]() // 10000 != 2:
+    if call["version"]() // 10000 != 3:
         raise SystemExit("%s is of another major version" % path)
-    assert ctypes.sizeof(Chip) == 52
-    chip, memory, holds = call["fresh"](), ctypes.create_string_buffer(65536), bytes([1, 1, 0, 1, 1, 0, 0, 1, 1, 0, 1, 0xA7])
+    assert ctypes.sizeof(Chip) == 54
+    chip, memory, holds = call["fresh"](AM9517A), ctypes.create_string_buffer(65536), bytes([1, 1, 0, 1, 1, 0, 0, 1, 1, 0, 1, 0xA7])
     for register, byte in [(0xD, 0), (0xB, 0x85), (0xC, 0), (2, 0), (2, 2), (3, 11), (3, 0), (0xA, 1)]:
         ok(call["write"](byref(chip), register, byte))
     ok(call["pins"](byref(chip), 2))

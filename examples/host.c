@@ -27,7 +27,7 @@ static int set_up(void)
         {3, 0x0b}, {3, 0x00},     /* word count 11, low byte first */
         {0xa, 0x01},              /* unmask channel 1 */
     };
-    chip = am9517_fresh();
+    chip = am9517_fresh(AM9517_EDITION_AM9517A);
     for (size_t i = 0; i < sizeof program / sizeof program[0]; i++)
         if (refused("write", am9517_write(&chip, program[i].reg, program[i].byte)))
             return 0;

@@ -33,7 +33,7 @@ int main()
 {
     const std::vector<std::uint8_t> holds{1, 1, 0, 1, 1, 0, 0, 1, 1, 0, 1, 0xa7};
     static am9517::Memory memory;
-    am9517::Chip chip;
+    am9517::Chip chip(am9517::Edition::am9517a);
 
     if (!set_up(chip) || refused("pins", chip.pins(2)))  // the hold unit raises its line
         return 1;

@@ -10,6 +10,10 @@
 
 enum { GAUGE = 1, TABLE = 0x0300, READINGS = 12, SLICE = 3 /* transfers that the bus is given away for */ };
 
+/* The part on the rack's board. AM9517_EDITION_INTEL_8237A is the other: form 1 can't store it, so the power cut below, refused
+ * by 15, ends the emulator. */
+enum { PART = AM9517_EDITION_AM9517A };
+
 /* ---- the device: readings come at their own pace, and wait in a queue until the chip takes them */
 
 struct gauge {
@@ -100,11 +104,14 @@ static void tick(struct rack *rack, unsigned number, size_t coming)
 
 /* ---- power: the chip forgets all; memory is core and the gauge has a battery, so both stay. The sheet goes to the disk */
 
-static void cut_power(struct rack *rack, uint8_t *sheet, size_t size)
+/* Where the sheet can't be stored the power stays on. */
+static int cut_power(struct rack *rack, uint8_t *sheet, size_t size)
 {
-    if (!refused("save", am9517_save(&rack->chip, sheet, size)))
-        printf("power cut in a service: the sheet of %u bytes is stored\n", (unsigned)size);
+    if (refused("save", am9517_save(&rack->chip, sheet, size)))
+        return 0;
+    printf("power cut in a service: the sheet of %u bytes is stored\n", (unsigned)size);
     memset(&rack->chip, 0xff, sizeof rack->chip);
+    return 1;
 }
 
 /* A sheet that the disk has damaged is refused and named; the chip stays as it was. */
@@ -133,7 +140,7 @@ int main(void)
     static struct rack rack;
     uint8_t sheet[AM9517_SHEET_SIZE], damaged[AM9517_SHEET_SIZE];
 
-    rack.chip = am9517_fresh();
+    rack.chip = am9517_fresh(PART);
     rack.gauge.waiting = readings;
     rack.gauge.ahead = sizeof readings;
     if (!program_chip(&rack.chip))
@@ -141,7 +148,8 @@ int main(void)
     for (unsigned i = 0; i < sizeof coming; i++) {
         tick(&rack, i + 1, coming[i]);
         if (i == 5) {
-            cut_power(&rack, sheet, sizeof sheet);
+            if (!cut_power(&rack, sheet, sizeof sheet))
+                return 1;
             memcpy(damaged, sheet, sizeof sheet);
             damaged[12] ^= 1;  /* the disk turned a bit */
             if (restore_power(&rack, damaged, sizeof damaged) || !restore_power(&rack, sheet, sizeof sheet))

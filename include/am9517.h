@@ -1,12 +1,13 @@
-/* am9517.h - one Am9517A DMA controller in software, as a C library. Version 2.1.0.
+/* am9517.h - one Am9517A or Intel 8237A DMA controller in software, as a C library. Version 3.0.0.
  *
- *     am9517_chip chip = am9517_fresh();
+ *     am9517_chip chip = am9517_fresh(AM9517_EDITION_AM9517A);
  *     uint32_t refusal = am9517_write(&chip, 0xb, 0x85);
  *     if (refusal != AM9517_OK)
  *         puts(am9517_refusal_text(refusal));
  *
- * Link with libam9517.a or libam9517.so.2. C99 or later, C++11 or later (am9517.hpp has a class for C++17). "Document 01"
- * is the rules of this controller: "One Am9517A in software: rules and limits".
+ * Link with libam9517.a or libam9517.so.3. C99 or later, C++11 or later (am9517.hpp has a class for C++17). "Document 01"
+ * is the rules of this controller, "One Am9517A in software: rules and limits", with what the landed requests A1 and A2 of
+ * document 02, "More requests from customers", change in them.
  *
  * PLATFORM. x86-64 Linux, the System V calling convention, 64-bit pointers: the library is machine code for it and for
  * nothing else. Of the C library it wants memset alone. The shared library names the GNU C library, of any age: with
@@ -16,8 +17,13 @@
  * THE CHIP is a struct that the caller owns, with the registers as fields: read them, show them, copy the struct, keep
  * many. A host may also set fields; a chip that is out of the ranges told beside the fields is refused by 1 instead of
  * running wild. A zeroed struct is within its ranges but not fresh (nothing is masked): begin with am9517_fresh. The struct
- * has 52 bytes and is aligned to 2. Behind each `mode` lies a byte of padding that means nothing, need not even be 0 in a
- * fresh chip and may change in a call: compare chips by their fields or by their sheets, not by memcmp.
+ * has 54 bytes and is aligned to 2. A byte of padding lies behind each `mode` and one at the end. Padding means nothing, need
+ * not be 0 in a fresh chip and may change in a call: compare chips by their fields, not by memcmp.
+ *
+ * EDITIONS. A chip is an Am9517A or an Intel 8237A: am9517_fresh is told which, the field `edition` has it, reset and master
+ * clear keep it. In an Intel chip a write of register E clears all four mask bits, where an Am9517A refuses it by 4; external
+ * EOP sets the TC bit; and am9517_save refuses the chip by 15, for a sheet has no place for the edition. A sheet that is
+ * loaded gives an Am9517A. All else is the same.
  *
  * REFUSALS. Each call but am9517_version, am9517_fresh and the two texts says a refusal number, 0 for none. Where several
  * hold it is the first in the order that stands with the call. A refused call changes no field of the chip and no byte of
@@ -41,8 +47,9 @@
  * pointers, no overlap, no race.
  *
  * VERSIONS. A new major number: a struct, a call or a number has changed, compile again. A new minor number: more calls; what was
- * compiled before runs on. Sheets outlive both: form 1 is document 01's. Version 1 kept the state as a sheet and had
- * am9517_copy; its calls took the sheet where these take the chip.
+ * compiled before runs on. Sheets outlive both: form 1 is document 01's. Version 2 had the one edition: no field for it, a
+ * struct of 52 bytes, am9517_fresh(void), no refusal 15. Version 1 kept the state as a sheet and had am9517_copy; its calls
+ * took the sheet where these take the chip.
  */
 #ifndef AM9517_H
 #define AM9517_H
@@ -59,14 +66,20 @@
 extern "C" {
 #endif
 
-#define AM9517_VERSION_MAJOR 2
-#define AM9517_VERSION_MINOR 1
+#define AM9517_VERSION_MAJOR 3
+#define AM9517_VERSION_MINOR 0
 #define AM9517_VERSION_PATCH 0
-#define AM9517_VERSION 20100  /* major * 10000 + minor * 100 + patch */
+#define AM9517_VERSION 30000  /* major * 10000 + minor * 100 + patch */
 
 #define AM9517_SHEET_SIZE 56      /* bytes of a stored sheet, form 1 */
 #define AM9517_MEMORY_SIZE 65536  /* bytes of a memory: a run or a round takes no other number */
 #define AM9517_ROUND_MOST 4096    /* services that a round may be asked for */
+
+/* Which maker's part a chip is. */
+enum am9517_edition {
+    AM9517_EDITION_AM9517A = 0,
+    AM9517_EDITION_INTEL_8237A = 1
+};
 
 /* Document 01's refusal numbers. */
 enum am9517_refusal {
@@ -74,7 +87,7 @@ enum am9517_refusal {
     AM9517_STATE_RANGE = 1,      /* a field of the chip is out of its range */
     AM9517_NUMBER = 2,           /* register over 15, pins over 15, or more than 4,096 services asked for */
     AM9517_IN_SERVICE = 3,       /* register access, grant or round during a service */
-    AM9517_REGISTER = 4,         /* read of 9, A, B, C, E or F, or write of E */
+    AM9517_REGISTER = 4,         /* read of 9, A, B, C, E or F, or write of E in an Am9517A */
     AM9517_MODE = 5,             /* mode byte with bits 3-2 = 11 and bits 7-6 not 11 */
     AM9517_NOBODY = 6,           /* grant with no entitled channel */
     AM9517_MEMORY_LENGTH = 7,    /* memory not of 65,536 bytes */
@@ -84,7 +97,8 @@ enum am9517_refusal {
     AM9517_SHEET_FORM = 11,      /* its form is not 1 */
     AM9517_SHEET_DISTANCE = 12,  /* its distance from trailer to body is not 48 */
     AM9517_SHEET_SUM = 13,       /* its sum is not that of its 48 body bytes */
-    AM9517_SHEET_RANGE = 14      /* it is sealed, and breaks a range */
+    AM9517_SHEET_RANGE = 14,     /* it is sealed, and breaks a range */
+    AM9517_SHEET_NO_PLACE = 15   /* form 1 has no place for the edition: an Intel chip can't be saved */
 };
 
 /* Why a run or a round stopped. */
@@ -108,10 +122,10 @@ typedef struct am9517_channel {
     uint8_t mode;      /* bits 1-0 are 0; bits 3-2 = 11 only where bits 7-6 = 11 */
 } am9517_channel;
 
-/* One chip: 52 bytes, aligned to 2. Idle means that `serving`, `latch_full` and `latch` are 0. */
+/* One chip: 54 bytes, aligned to 2; the last is padding. Idle means that `serving`, `latch_full` and `latch` are 0. */
 typedef struct am9517_chip {
     am9517_channel channels[4];
-    uint8_t tc;          /* 0 to 15: bit n, channel n has reached TC since register 8 was read */
+    uint8_t tc;          /* 0 to 15: bit n, channel n has reached TC (Intel: or met EOP) since register 8 was read */
     uint8_t request;     /* 0 to 15: software requests, bit n for channel n */
     uint8_t mask;        /* 0 to 15: bit n, channel n's line is masked */
     uint8_t pins;        /* 0 to 15: the DREQ pins' levels */
@@ -119,8 +133,9 @@ typedef struct am9517_chip {
     uint8_t serving;     /* 0 to 3: the serving channel; 0 while idle */
     uint8_t latch_full;  /* 0 or 1: an upper address byte was latched in this service */
     uint8_t latch;       /* that byte; 0 while there is none */
-    uint8_t flip_flop;   /* 0 low byte next, 1 high byte next */
     uint8_t lowest;      /* 0 to 3: the channel of lowest priority under rotation */
+    uint8_t flip_flop;   /* 0 low byte next, 1 high byte next */
+    uint8_t edition;     /* 0 Am9517A, 1 Intel 8237A: enum am9517_edition */
     uint8_t temporary;
     uint8_t command;
 } am9517_chip;
@@ -163,8 +178,9 @@ typedef struct am9517_round_told {
 #ifdef AM9517_HEADER_ASK_
 AM9517_HEADER_ASK_(sizeof(size_t) == 8);
 AM9517_HEADER_ASK_(sizeof(am9517_channel) == 10 && AM9517_HEADER_ALIGNED_(am9517_channel) == 2);
-AM9517_HEADER_ASK_(sizeof(am9517_chip) == 52 && AM9517_HEADER_ALIGNED_(am9517_chip) == 2);
-AM9517_HEADER_ASK_(offsetof(am9517_channel, mode) == 8 && offsetof(am9517_chip, tc) == 40 && offsetof(am9517_chip, command) == 51);
+AM9517_HEADER_ASK_(sizeof(am9517_chip) == 54 && AM9517_HEADER_ALIGNED_(am9517_chip) == 2);
+AM9517_HEADER_ASK_(offsetof(am9517_channel, mode) == 8 && offsetof(am9517_chip, tc) == 40);
+AM9517_HEADER_ASK_(offsetof(am9517_chip, edition) == 50 && offsetof(am9517_chip, command) == 52);
 AM9517_HEADER_ASK_(sizeof(am9517_told) == 8 && sizeof(am9517_run_told) == 40 && sizeof(am9517_round_told) == 56);
 #undef AM9517_HEADER_ASK_
 #undef AM9517_HEADER_ALIGNED_
@@ -173,24 +189,28 @@ AM9517_HEADER_ASK_(sizeof(am9517_told) == 8 && sizeof(am9517_run_told) == 40 && 
 /* AM9517_VERSION of the library that is linked: its major number must be the header's. */
 uint32_t am9517_version(void);
 
-/* A fresh chip: all zero but the mask (15) and the lowest channel (3). */
-am9517_chip am9517_fresh(void);
+/* A fresh chip of this edition (enum am9517_edition): all zero but the mask (15), the lowest channel (3) and the edition. A
+ * number over 1 is no edition: the field `edition` has it, 255 for any over 255, and every call but am9517_load refuses the
+ * chip by 1. */
+am9517_chip am9517_fresh(uint32_t edition);
 
 /* Says whether every field is in its range, and changes nothing. Refusals: 1. */
 uint32_t am9517_check(const am9517_chip *chip);
 
 /* Writes a byte to register 0 to 15. A write of 0 to 7 sets one byte of base and current, low byte first, and turns the
- * flip-flop over; the other registers are document 01's (figure 4 of the data sheet). Refusals: 1, 2, 3, 4, 5. */
+ * flip-flop over; the other registers are document 01's (figure 4 of the data sheet). In an Intel chip a write of E clears
+ * all four mask bits, whatever the byte; in an Am9517A it is refused by 4. Refusals: 1, 2, 3, 4, 5. */
 uint32_t am9517_write(am9517_chip *chip, uint32_t reg, uint8_t byte);
 
 /* Reads register 0 to 15; the byte is `value`. A read of 0 to 7 gives current and turns the flip-flop over, one of 8 gives
- * the status and clears the TC bits, one of D gives the temporary byte. Refusals: 1, 2, 3, 4. */
+ * the status and clears the TC bits, one of D gives the temporary byte; the others are refused by 4 in both editions.
+ * Refusals: 1, 2, 3, 4. */
 am9517_told am9517_read(am9517_chip *chip, uint32_t reg);
 
 /* Sets the four DREQ pins, bit n for channel n, also during a service. Refusals: 1, 2. */
 uint32_t am9517_pins(am9517_chip *chip, uint32_t levels);
 
-/* Resets, also during a service. Addresses, counts, modes and pins stay. Refusals: 1. */
+/* Resets, also during a service. Addresses, counts, modes, pins and edition stay. Refusals: 1. */
 uint32_t am9517_reset(am9517_chip *chip);
 
 /* Begins the service of the first entitled channel; the channel is `value`. Refusals: 1, 3, 6. */
@@ -204,10 +224,12 @@ am9517_told am9517_entitled(const am9517_chip *chip);
 am9517_told am9517_status(const am9517_chip *chip);
 
 /* Runs the open service over a memory of 65,536 bytes: at most `limit` transfers; the transfer of this call numbered `eop_at`
- * (from 1; 0: none) meets external EOP. Bytes for memory are taken from `device`, bytes from memory are put into
- * `room`; room behind the last byte written isn't touched. After "limit" or "short" the service is open: call again with
- * device + used, room + written and what is left of them. Limit and EOP number count anew in each call: a limit of 100 that
- * stopped at 100 is spent, an EOP number beyond the transfers made is forgotten. Refusals: 1, 7, 8. */
+ * (from 1; 0: none) meets external EOP. EOP ends the service as TC does, but sets the TC bit only in an Intel chip: that of
+ * the serving channel, of channel 1 in memory-to-memory, with autoinitialize too. Bytes for memory are taken from `device`,
+ * bytes from memory are put into `room`; room behind the last byte written isn't touched. After "limit" or "short" the
+ * service is open: call again with device + used, room + written and what is left of them. Limit and EOP number count anew
+ * in each call: a limit of 100 that stopped at 100 is spent, an EOP number beyond the transfers made is forgotten.
+ * Refusals: 1, 7, 8. */
 am9517_run_told am9517_run(am9517_chip *chip,
                            uint8_t *memory, size_t memory_size,
                            const uint8_t *device, size_t device_size,
@@ -225,11 +247,12 @@ am9517_round_told am9517_round(am9517_chip *chip,
                                uint32_t k);
 
 /* Stores the chip as a sheet of form 1 in the last 56 bytes of `sheet`; bytes before them aren't touched. A chip in service
- * can be stored, and goes on after am9517_load. Memory and device are not part of it. Refusals: 1, 9. */
+ * can be stored, and goes on after am9517_load. Memory and device are not part of it. Form 1 has no place for the edition: an
+ * Intel chip is refused by 15. Refusals: 1, 9, 15. */
 uint32_t am9517_save(const am9517_chip *chip, uint8_t *sheet, size_t size);
 
-/* Loads the chip from the sheet in the last 56 bytes of `sheet`. What the chip was plays no part; refused, it stays.
- * Refusals: 9, 10, 11, 12, 13, 14. */
+/* Loads the chip from the sheet in the last 56 bytes of `sheet`. What the chip was plays no part: it is an Am9517A then, for
+ * form 1 tells of no other. Refused, it stays, with its edition. Refusals: 9, 10, 11, 12, 13, 14. */
 uint32_t am9517_load(am9517_chip *chip, const uint8_t *sheet, size_t size);
 
 /* A refusal number in words, the rack console's (`help refusals`); there is a text for every number. */
@@ -240,7 +263,7 @@ static inline const char *am9517_refusal_text(uint32_t refusal)
     case 1: return "the state breaks a range of the sheet section";
     case 2: return "register number over 15, pins over 15, or more than 4,096 services asked for";
     case 3: return "register access, grant or round during a service";
-    case 4: return "read of 9, A, B, C, E, F, or write of E";
+    case 4: return "read of 9, A, B, C, E, F, or write of E in an Am9517A";
     case 5: return "mode byte with bits 3-2 = 11 and bits 7-6 not 11";
     case 6: return "grant with no entitled channel";
     case 7: return "memory not of 65,536 bytes";
@@ -251,6 +274,7 @@ static inline const char *am9517_refusal_text(uint32_t refusal)
     case 12: return "sheet fault: distance";
     case 13: return "sheet fault: sum";
     case 14: return "sheet fault: range";
+    case 15: return "form 1 has no place for the edition";
     default: return "no refusal has this number";
     }
 }

@@ -1,13 +1,15 @@
 // am9517.hpp - am9517.h for C++17 and later: a class over the chip, spans, and results without exceptions.
 //
-//     am9517::Chip chip;
+//     am9517::Chip chip;                                    // an Am9517A
+//     am9517::Chip other(am9517::Edition::intel_8237a);
 //     auto grant = chip.grant();
 //     if (!grant)
 //         std::puts(grant.text());
 //
 // Header only: link with the same library. Nothing here is proved; each method makes the one C call of its name, whose
 // contract stands in am9517.h, and none throws. A Chip is a value: copies are chips of their own. Its fields are those of the
-// C struct, read and set by fields(). A result has a value or a refusal; where it is refused its value is all zero.
+// C struct, read and set by fields(); the edition is one of them. A result has a value or a refusal; where it is refused its
+// value is all zero.
 #ifndef AM9517_HPP
 #define AM9517_HPP
 
@@ -27,6 +29,11 @@ namespace am9517 {
 
 // ---- numbers
 
+enum class Edition : std::uint32_t {
+    am9517a = AM9517_EDITION_AM9517A,
+    intel_8237a = AM9517_EDITION_INTEL_8237A
+};
+
 enum class Refusal : std::uint32_t {
     none = AM9517_OK,
     state_range = AM9517_STATE_RANGE,
@@ -42,7 +49,8 @@ enum class Refusal : std::uint32_t {
     sheet_form = AM9517_SHEET_FORM,
     sheet_distance = AM9517_SHEET_DISTANCE,
     sheet_sum = AM9517_SHEET_SUM,
-    sheet_range = AM9517_SHEET_RANGE
+    sheet_range = AM9517_SHEET_RANGE,
+    sheet_no_place = AM9517_SHEET_NO_PLACE
 };
 
 enum class Reason : std::uint32_t {
@@ -56,6 +64,7 @@ enum class Reason : std::uint32_t {
     quiet = AM9517_REASON_QUIET
 };
 
+constexpr std::uint32_t number_of(Edition edition) noexcept { return static_cast<std::uint32_t>(edition); }
 constexpr std::uint32_t number_of(Refusal refusal) noexcept { return static_cast<std::uint32_t>(refusal); }
 constexpr std::uint32_t number_of(Reason reason) noexcept { return static_cast<std::uint32_t>(reason); }
 
@@ -158,13 +167,17 @@ struct Round {
 
 class Chip {
 public:
-    // A fresh one.
-    Chip() noexcept : chip_(am9517_fresh()) {}
+    // A fresh Am9517A.
+    Chip() noexcept : Chip(Edition::am9517a) {}
+    // A fresh one of this edition.
+    explicit Chip(Edition edition) noexcept : chip_(am9517_fresh(number_of(edition))) {}
     // These fields, whatever their ranges: calls refuse those that break one.
     explicit Chip(const am9517_chip &fields) noexcept : chip_(fields) {}
 
     const am9517_chip &fields() const noexcept { return chip_; }
     am9517_chip &fields() noexcept { return chip_; }
+    // As its field says; a host may have set another number there.
+    Edition edition() const noexcept { return Edition{chip_.edition}; }
 
     Result<void> check() const noexcept { return done(am9517_check(&chip_)); }
     Result<void> write(std::uint32_t reg, std::uint8_t byte) noexcept { return done(am9517_write(&chip_, reg, byte)); }
@@ -192,7 +205,7 @@ public:
         return {Refusal{told.refusal}, Round{Reason{told.reason}, services, told.transfers, told.used, told.written, told.states}};
     }
 
-    // Into, and from, the last 56 bytes.
+    // Into, and from, the last 56 bytes: an Am9517A alone has a sheet, and what is loaded is one.
     Result<void> save(Bytes sheet) const noexcept { return done(am9517_save(&chip_, sheet.data(), sheet.size())); }
     Result<void> load(ConstBytes sheet) noexcept { return done(am9517_load(&chip_, sheet.data(), sheet.size())); }
 
@@ -212,8 +225,8 @@ public:
             if (!same(a.channels[n], b.channels[n]))
                 return false;
         return a.tc == b.tc && a.request == b.request && a.mask == b.mask && a.pins == b.pins && a.in_service == b.in_service
-               && a.serving == b.serving && a.latch_full == b.latch_full && a.latch == b.latch && a.flip_flop == b.flip_flop
-               && a.lowest == b.lowest && a.temporary == b.temporary && a.command == b.command;
+               && a.serving == b.serving && a.latch_full == b.latch_full && a.latch == b.latch && a.lowest == b.lowest
+               && a.flip_flop == b.flip_flop && a.edition == b.edition && a.temporary == b.temporary && a.command == b.command;
     }
     friend bool operator!=(const Chip &left, const Chip &right) noexcept { return !(left == right); }
 

@@ -1,6 +1,6 @@
 /* Every call with good and bad input: what it answers, what it leaves, and that a refusal leaves everything. All areas stand
- * between guard bytes; areas of 0 bytes are NULL as well. What the same operations answer in a script is compared by
- * console.c; here stands what no script can say. */
+ * between guard bytes; areas of 0 bytes are NULL as well. What both editions share is asked of both. What the same operations
+ * answer in a script is compared by console.c; here stands what no script can say. */
 #include <stdio.h>
 #include <string.h>
 
@@ -31,9 +31,15 @@ static struct {
     uint8_t d[GUARD];
     uint8_t sheet[SHEET + 4];
     uint8_t e[GUARD];
-} at, before;
+} at, before, after;
 static const uint8_t device[4] = {0x11, 0x22, 0x33, 0x44};
 static am9517_chip *const chip = &at.chip;
+static uint32_t edition;  /* of the chips that begin() makes */
+
+static int intel(void)
+{
+    return edition == AM9517_EDITION_INTEL_8237A;
+}
 
 static void begin(void)
 {
@@ -45,7 +51,7 @@ static void begin(void)
     memset(at.memory, 0x55, sizeof at.memory);
     memset(at.room, 0xee, sizeof at.room);
     memset(at.sheet, 0xdd, sizeof at.sheet);
-    at.chip = am9517_fresh();
+    at.chip = am9517_fresh(edition);
     before = at;
 }
 
@@ -62,6 +68,12 @@ static int guards(void)
     return watched(at.a) && watched(at.b) && watched(at.c) && watched(at.d) && watched(at.e);
 }
 
+static am9517_channel channel_of(uint16_t base_address, uint16_t address, uint16_t base_count, uint16_t count, uint8_t mode)
+{
+    const am9517_channel c = {base_address, address, base_count, count, mode};
+    return c;
+}
+
 static int same_channel(const am9517_channel *p, const am9517_channel *q)
 {
     return p->base_address == q->base_address && p->address == q->address && p->base_count == q->base_count
@@ -74,7 +86,7 @@ static int same_chip(const am9517_chip *p, const am9517_chip *q)
     for (int n = 0; n < 4; n++)
         if (!same_channel(&p->channels[n], &q->channels[n]))
             return 0;
-    return memcmp(&p->tc, &q->tc, sizeof *p - offsetof(am9517_chip, tc)) == 0;
+    return memcmp(&p->tc, &q->tc, offsetof(am9517_chip, command) + 1 - offsetof(am9517_chip, tc)) == 0;
 }
 
 static int areas_stay(void)
@@ -152,6 +164,7 @@ static void out_of_range(const char *what)
         all_stay(what, (unsigned long)which);
     }
     expect(am9517_write(chip, 16, 0) == 1 && am9517_read(chip, 16).refusal == 1 && am9517_pins(chip, 16) == 1, what, 90);
+    expect(am9517_write(chip, 14, 0) == 1 && am9517_read(chip, 14).refusal == 1, what, 95);
     expect(am9517_run(chip, NULL, 0, NULL, 0, NULL, 0, 1, 0).refusal == 1, what, 91);
     expect(am9517_round(chip, NULL, 0, NULL, 0, NULL, 0, 5000).refusal == 1, what, 92);
     expect(am9517_save(chip, NULL, 0) == 1, what, 93);
@@ -180,7 +193,9 @@ static void bad_chips(void)
     ranged(&chip->pins, 15, "pins");
     ranged(&chip->flip_flop, 1, "flip-flop");
     ranged(&chip->lowest, 3, "lowest");
+    ranged(&chip->edition, 1, "edition");
     chip->in_service = 1;
+    ranged(&chip->edition, 1, "edition in service");
     ranged(&chip->in_service, 1, "in service");
     ranged(&chip->serving, 3, "serving");
     ranged(&chip->latch_full, 1, "latch full");
@@ -206,17 +221,31 @@ static void bad_chips(void)
 
 /* ---- fresh, version, texts */
 
-static void fresh_chips(void)
+/* All zero but mask, lowest channel and edition. */
+static int is_fresh(const am9517_chip *c, uint32_t of)
 {
     am9517_chip want;
     memset(&want, 0, sizeof want);
     want.mask = 15;
     want.lowest = 3;
+    want.edition = (uint8_t)of;
+    return same_chip(c, &want);
+}
+
+static void fresh_chips(void)
+{
+    static const uint32_t none[] = {2, 3, 127, 128, 254, 255, 256, 257, 512, 65536, 65537, 0x80000000u, 0xffffff00u, 0xffffff01u, 0xffffffffu};
     begin();
-    expect(same_chip(chip, &want), "fresh", 0);
-    expect(am9517_check(chip) == AM9517_OK, "fresh is in its ranges", 0);
+    expect(is_fresh(chip, edition), "fresh", edition);
+    expect(am9517_check(chip) == AM9517_OK, "fresh is in its ranges", edition);
     memset(chip, 0, sizeof *chip);
-    expect(am9517_check(chip) == AM9517_OK, "a zeroed chip is in its ranges", 0);
+    expect(am9517_check(chip) == AM9517_OK && chip->edition == AM9517_EDITION_AM9517A, "a zeroed chip is an Am9517A in its ranges", 0);
+    for (size_t i = 0; i < sizeof none / sizeof none[0]; i++) {
+        begin();
+        *chip = am9517_fresh(none[i]);
+        expect(is_fresh(chip, none[i] < 255 ? none[i] : 255), "fresh of no edition", none[i]);
+        out_of_range("no edition");
+    }
     expect(am9517_version() == AM9517_VERSION, "version", am9517_version());
     expect(AM9517_VERSION == AM9517_VERSION_MAJOR * 10000 + AM9517_VERSION_MINOR * 100 + AM9517_VERSION_PATCH, "version's parts", 0);
 }
@@ -227,9 +256,11 @@ static void texts(void)
         expect(strlen(am9517_refusal_text(n)) > 3, "a refusal's text", n);
         expect(strlen(am9517_reason_text(n)) > 3, "a reason's text", n);
     }
-    expect(strcmp(am9517_refusal_text(15), am9517_refusal_text(0xffffffffu)) == 0, "no refusal", 0);
+    expect(strcmp(am9517_refusal_text(16), am9517_refusal_text(0xffffffffu)) == 0, "no refusal", 0);
     expect(strcmp(am9517_reason_text(8), am9517_reason_text(0xffffffffu)) == 0, "no reason", 0);
-    expect(strcmp(am9517_refusal_text(14), "sheet fault: range") == 0, "the last refusal", 0);
+    expect(strcmp(am9517_refusal_text(4), "read of 9, A, B, C, E, F, or write of E in an Am9517A") == 0, "the refusal of E", 0);
+    expect(strcmp(am9517_refusal_text(14), "sheet fault: range") == 0, "the last fault of a sheet", 0);
+    expect(strcmp(am9517_refusal_text(15), "form 1 has no place for the edition") == 0, "the last refusal", 0);
     expect(strcmp(am9517_reason_text(7), "quiet") == 0, "the last reason", 0);
 }
 
@@ -246,7 +277,6 @@ static void registers(void)
     begin();
     refused(am9517_write(chip, 16, 0), AM9517_NUMBER, "write of 16");
     refused(am9517_write(chip, 0xffffffffu, 0), AM9517_NUMBER, "write of 2^32 - 1");
-    refused(am9517_write(chip, 14, 0), AM9517_REGISTER, "write of E");
     refused(am9517_write(chip, 11, 0x0c), AM9517_MODE, "mode 0Ch");
     refused(alone(am9517_read(chip, 16)), AM9517_NUMBER, "read of 16");
     for (uint32_t reg = 9; reg <= 15; reg++)
@@ -346,7 +376,7 @@ static void runs_from_memory(void)
     r = am9517_run(chip, at.memory, MEMORY, NULL, 0, at.room + 1, ROOM - 1, 9, 2);
     expect(r.reason == AM9517_REASON_ENDED && r.transfers == 2 && r.written == 2 && r.used == 0, "EOP at 2", r.transfers);
     expect(memcmp(at.room, device, 3) == 0 && at.room[3] == 0xee, "bytes in the room", at.room[1]);
-    expect(chip->tc == 0 && (chip->mask & 1) == 1, "EOP sets no TC bit", chip->tc);
+    expect(chip->tc == intel() && (chip->mask & 1) == 1, "EOP sets the TC bit in an Intel chip alone", chip->tc);
     expect(guards(), "guards of a run", 1);
 }
 
@@ -451,7 +481,7 @@ static void saved(void)
 static void damaged(int place, uint8_t byte, int sealed, uint32_t number, const char *what)
 {
     opened(0x84, 3);
-    const am9517_chip fresh = am9517_fresh();
+    const am9517_chip fresh = am9517_fresh(AM9517_EDITION_AM9517A);
     am9517_save(&fresh, at.sheet, sizeof at.sheet);
     at.sheet[4 + place] = byte;
     if (sealed)
@@ -499,29 +529,375 @@ static void loaded(void)
     expect(guards(), "guards of sheets", 0);
 }
 
-/* ---- looking calls write nothing: this chip lies where a write ends the program */
+/* ---- editions: the write of E */
 
-static const am9517_chip still = {
-    {{1, 2, 3, 4, 0x84}, {5, 6, 7, 8, 0x44}, {9, 10, 11, 12, 0}, {13, 14, 15, 16, 0xc0}}, 1, 0, 14, 3, 1, 0, 1, 0x12, 0, 2, 0x5a, 0x10};
+static void all_bytes_to_e(uint8_t mask)
+{
+    const uint32_t want = intel() ? AM9517_OK : AM9517_REGISTER;
+    am9517_chip start = *chip;
+    start.mask = mask;
+    for (unsigned byte = 0; byte < 256; byte++) {
+        am9517_chip left = start;
+        *chip = start;
+        left.mask = intel() ? 0 : mask;
+        expect(am9517_write(chip, 14, (uint8_t)byte) == want && same_chip(chip, &left), "write of E", byte);
+    }
+}
+
+/* Whatever else the chip has, nothing but the mask changes; a read of E is refused, and so is a write during a service. */
+static void writes_of_e(void)
+{
+    begin();
+    for (uint8_t mask = 0; mask < 16; mask++)
+        all_bytes_to_e(mask);
+    begin();
+    chip->tc = chip->request = chip->pins = 15;
+    chip->command = chip->temporary = 0xff;
+    chip->flip_flop = 1;
+    for (int n = 0; n < 4; n++)
+        chip->channels[n] = channel_of(0x1234, 0x5678, 0x9abc, 0xdef0, 0xfc);
+    for (uint8_t mask = 0; mask < 16; mask++)
+        all_bytes_to_e(mask);
+    expect(guards() && areas_stay(), "writes of E touched something else", 0);
+    before = at;
+    refused(alone(am9517_read(chip, 14)), AM9517_REGISTER, "read of E");
+    begin();
+    am9517_pins(chip, 15);
+    expect(am9517_entitled(chip).value == 0, "all masked", am9517_entitled(chip).value);
+    am9517_write(chip, 14, 0x0f);
+    expect(am9517_entitled(chip).value == (intel() ? 15u : 0u), "E opens all four lines", am9517_entitled(chip).value);
+    chip->mask = 0;
+    expect(am9517_grant(chip).refusal == AM9517_OK, "grant", 0);
+    before = at;
+    refused(am9517_write(chip, 14, 0), AM9517_IN_SERVICE, "write of E in service");
+    refused(alone(am9517_read(chip, 14)), AM9517_IN_SERVICE, "read of E in service");
+}
+
+/* ---- editions: EOP */
+
+/* Channel n's service open by its line: this mode, base count and count, and all other TC bits set. */
+static void lined(int n, uint8_t mode, uint16_t count)
+{
+    begin();
+    chip->channels[n] = channel_of(0x4321, 0x1234, 9, count, mode);
+    chip->mask = 0;
+    chip->pins = (uint8_t)(1u << n);
+    expect(am9517_grant(chip).value == (uint32_t)n && chip->in_service == 1, "the line's channel", (unsigned long)n);
+    chip->tc = (uint8_t)(15u ^ 1u << n);
+    before = at;
+}
+
+/* What TC or EOP leaves of channel n, with this count if nothing is restored, and of its TC bit. */
+static void is_over(int n, uint16_t count, int tc, const char *what)
+{
+    const am9517_channel *c = &chip->channels[n];
+    const unsigned bit = 1u << n;
+    const int restored = c->mode >> 4 & 1;
+    expect(chip->tc == (tc ? 15u : 15u ^ bit), what, chip->tc);
+    expect(chip->mask == (restored ? 0 : bit), what, chip->mask);
+    expect(c->count == (restored ? 9 : count) && (c->address == 0x4321) == restored, what, c->count);
+    expect(chip->in_service == 0 && chip->serving == 0 && chip->latch_full == 0 && chip->latch == 0, what, chip->in_service);
+    expect(chip->edition == edition && guards(), what, chip->edition);
+}
+
+static void eop_of(int n, uint8_t mode)
+{
+    const int single = mode >> 6 == 1;
+    am9517_run_told r;
+    lined(n, mode, 2);
+    r = run_all(9, 1);
+    expect(r.reason == AM9517_REASON_ENDED && r.transfers == 1 && r.states == 4, "EOP at 1", (unsigned long)r.transfers);
+    is_over(n, 1, intel(), "EOP alone");
+    lined(n, mode, 0);
+    expect(run_all(9, 1).reason == AM9517_REASON_ENDED, "EOP with TC", mode);
+    is_over(n, 0xffff, 1, "EOP with TC");
+    lined(n, mode, 0);
+    expect(run_all(9, 0).reason == AM9517_REASON_ENDED, "TC", mode);
+    is_over(n, 0xffff, 1, "TC alone");
+    lined(n, mode, 0);
+    expect(run_all(9, 2).reason == AM9517_REASON_ENDED, "EOP behind TC", mode);
+    is_over(n, 0xffff, 1, "EOP behind TC");
+    lined(n, mode, 2);
+    r = run_all(1, 2);  /* its number is beyond the transfers made, and is not carried on */
+    expect(r.reason == (single ? AM9517_REASON_ENDED : AM9517_REASON_LIMIT), "the limit comes before EOP", r.reason);
+    expect(chip->tc == before.chip.tc && chip->mask == 0, "EOP beyond the limit", chip->tc);
+    if (single)
+        return;
+    r = run_all(1, ~(uint64_t)0);
+    expect(r.reason == AM9517_REASON_LIMIT && chip->tc == before.chip.tc && chip->mask == 0, "EOP at 2^64 - 1", r.reason);
+    expect(run_all(9, 1).reason == AM9517_REASON_ENDED, "EOP with TC, cut", mode);
+    is_over(n, 0xffff, 1, "EOP with TC, cut");
+    lined(n, mode, 2);
+    expect(run_all(9, 2).transfers == 2, "EOP at 2", mode);
+    is_over(n, 0, intel(), "EOP where the count reads 0");
+}
+
+/* No transfer is made, so none meets EOP. */
+static void no_eop(int n)
+{
+    am9517_run_told r;
+    lined(n, 0xc0, 2);
+    r = run_all(9, 1);
+    expect(r.reason == AM9517_REASON_CASCADE && chip->tc == before.chip.tc, "EOP in cascade", r.reason);
+    lined(n, 0x04, 2);
+    r = am9517_run(chip, at.memory, MEMORY, NULL, 0, NULL, 0, 9, 1);
+    expect(r.reason == AM9517_REASON_SHORT && chip->tc == before.chip.tc, "EOP with no device byte", r.reason);
+    am9517_pins(chip, 0);
+    r = run_all(9, 1);
+    expect(r.reason == AM9517_REASON_DROPPED && chip->tc == before.chip.tc && chip->mask == 0, "EOP where the line dropped", r.reason);
+}
+
+static void eops(void)
+{
+    static const uint8_t kinds[] = {0x00, 0x40, 0x80}, ways[] = {0x00, 0x04, 0x08}, others[] = {0x00, 0x10, 0x20, 0x30};
+    for (int n = 0; n < 4; n++) {
+        for (int i = 0; i < 36; i++)
+            eop_of(n, (uint8_t)(kinds[i % 3] | ways[i / 3 % 3] | others[i / 9]));
+        no_eop(n);
+    }
+    lined(2, 0x88, 2);
+    run_all(9, 1);
+    before = at;
+    expect(am9517_status(chip).value == (intel() ? 0x4fu : 0x4bu), "the status shows it", am9517_status(chip).value);
+    expect(am9517_read(chip, 8).value == (intel() ? 0x4fu : 0x4bu) && chip->tc == 0, "and a read clears it", chip->tc);
+}
+
+/* Memory-to-memory: channel 1's count is run, so TC bit 1 is the one, whatever channel 0's count and modes are. */
+static void copied(uint8_t mode0, uint8_t mode1, uint8_t hold, uint16_t count0)
+{
+    for (int kind = 0; kind < 3; kind++) {  /* EOP alone, EOP with TC, TC alone */
+        const int tc = kind > 0;
+        begin();
+        chip->command = (uint8_t)(1u | hold);
+        chip->channels[0] = channel_of(0x0400, 0x0300, 7, count0, mode0);
+        chip->channels[1] = channel_of(0x4321, 0x1234, 9, tc ? 1 : 5, mode1);
+        chip->mask = 0;
+        chip->request = 15;
+        chip->pins = 1;
+        expect(am9517_grant(chip).value == 0, "grant of channel 0", mode0);
+        chip->tc = 12;
+        const am9517_run_told r = run_all(9, kind < 2 ? 2 : 0);
+        const unsigned restored = mode1 >> 4 & 1;
+        expect(r.reason == AM9517_REASON_ENDED && r.transfers == 2 && r.states == 16, "two bytes copied", (unsigned long)r.transfers);
+        expect(r.used == 0 && r.written == 0, "the device has no part in it", (unsigned long)r.used);
+        expect(chip->tc == (tc || intel() ? 14 : 12), "TC bit 1, never 0", chip->tc);
+        expect(chip->mask == (restored ? 0 : 2) && chip->request == 12, "mask and requests", chip->mask);
+        expect(chip->channels[1].count == (restored ? 9 : tc ? 0xffff : 3), "channel 1's count", chip->channels[1].count);
+        expect(chip->edition == edition && chip->in_service == 0 && guards(), "the copy's chip", chip->edition);
+    }
+}
+
+static void copies(void)
+{
+    static const uint8_t modes[] = {0x00, 0x10, 0x40, 0x54, 0x88, 0x98, 0xa8, 0xc0, 0xdc};
+    for (int i = 0; i < 9; i++)
+        for (uint16_t count0 = 0; count0 < 4; count0++) {
+            copied(modes[i], 0x84, 0, count0);
+            copied(modes[i], 0x94, 0, count0);
+            copied(modes[i], 0xa4, 2, count0);
+            copied(modes[i], 0xdc, 2, count0);
+        }
+}
+
+/* ---- editions: what keeps them, and sheets */
+
+static void edition_kept(void)
+{
+    begin();
+    expect(am9517_reset(chip) == AM9517_OK && is_fresh(chip, edition), "reset keeps the edition", chip->edition);
+    opened(0x84, 3);
+    expect(am9517_reset(chip) == AM9517_OK && chip->edition == edition && chip->in_service == 0, "reset in service, too", chip->edition);
+    begin();
+    chip->command = chip->temporary = 0xff;
+    chip->tc = chip->request = 15;
+    chip->flip_flop = 1;
+    chip->mask = chip->lowest = 0;
+    expect(am9517_write(chip, 13, 0xff) == AM9517_OK && is_fresh(chip, edition), "master clear keeps the edition", chip->edition);
+}
+
+/* An Intel chip has no sheet: 1, 9, 15 in this order, and not a byte is written. */
+static void intel_sheets(void)
+{
+    edition = AM9517_EDITION_INTEL_8237A;
+    opened(0x84, 3);
+    for (size_t size = 0; size <= sizeof at.sheet; size++)
+        refused(am9517_save(chip, at.sheet, size), size < SHEET ? AM9517_SHEET_SHORT : AM9517_SHEET_NO_PLACE, "save of an Intel chip in service");
+    begin();
+    refused(am9517_save(chip, at.sheet, sizeof at.sheet), AM9517_SHEET_NO_PLACE, "save of an Intel chip");
+    refused(am9517_save(chip, NULL, 0), AM9517_SHEET_SHORT, "save: 9 before 15");
+    chip->lowest = 4;
+    before = at;
+    refused(am9517_save(chip, at.sheet, 55), AM9517_STATE_RANGE, "save: 1 before 9 and 15");
+    refused(am9517_save(chip, at.sheet, 56), AM9517_STATE_RANGE, "save: 1 before 15");
+}
+
+/* A sheet is an Am9517A's, whatever the chip was; refused, it leaves the chip with its edition. */
+static void loaded_over(uint32_t was)
+{
+    const am9517_chip fresh = am9517_fresh(AM9517_EDITION_AM9517A);
+    edition = was;
+    begin();
+    am9517_save(&fresh, at.sheet, sizeof at.sheet);
+    chip->channels[2].address = 0x1234;
+    before = at;
+    at.sheet[4 + 55] ^= 1;
+    expect(am9517_load(chip, at.sheet, sizeof at.sheet) == AM9517_SHEET_END_MARK, "a sheet is refused", was);
+    expect(same_chip(chip, &before.chip), "and the chip keeps its edition", was);
+    at.sheet[4 + 55] ^= 1;
+    expect(am9517_load(chip, at.sheet, 55) == AM9517_SHEET_SHORT && same_chip(chip, &before.chip), "a short one, too", was);
+    expect(am9517_load(chip, at.sheet, sizeof at.sheet) == AM9517_OK && same_chip(chip, &fresh), "a sheet makes an Am9517A", was);
+    expect(am9517_write(chip, 14, 0) == AM9517_REGISTER && guards(), "which knows no write of E", was);
+}
+
+/* ---- editions: all else is the same, in random calls on two chips that differ in the edition alone */
+
+static uint32_t seed = 9517;
+
+static uint32_t drawn(uint32_t below)
+{
+    seed = seed * 1664525u + 1013904223u;
+    return (seed >> 8) % below;
+}
+
+static void draw_chip(am9517_chip *c)
+{
+    for (int n = 0; n < 4; n++) {
+        const uint32_t kind = drawn(4), way = drawn(kind == 3 ? 4 : 3);
+        c->channels[n] = channel_of((uint16_t)drawn(65536), (uint16_t)drawn(65536), (uint16_t)drawn(12), (uint16_t)drawn(12),
+                                    (uint8_t)(kind << 6 | drawn(4) << 4 | way << 2));
+    }
+    c->command = (uint8_t)(drawn(256) & 0xfb);
+    c->temporary = (uint8_t)drawn(256);
+    c->tc = (uint8_t)drawn(16), c->request = (uint8_t)drawn(16), c->mask = (uint8_t)drawn(16), c->pins = (uint8_t)drawn(16);
+    c->flip_flop = (uint8_t)drawn(2);
+    c->lowest = (uint8_t)drawn(4);
+    c->in_service = (uint8_t)drawn(2);
+    c->serving = (uint8_t)(c->in_service ? drawn(4) : 0);
+    c->latch_full = (uint8_t)(c->in_service ? drawn(2) : 0);
+    c->latch = (uint8_t)(c->latch_full ? drawn(256) : 0);
+}
+
+static uint64_t told(am9517_told t)
+{
+    return (uint64_t)t.refusal << 32 | t.value;
+}
+
+/* One call on `chip`, folded into a number. E is not written, nothing is saved, and no run meets EOP. */
+static uint64_t any_call(uint32_t which, uint32_t reg, uint8_t byte, uint32_t k)
+{
+    switch (which) {
+    case 0: return am9517_write(chip, reg == 14 ? 13 : reg, byte);
+    case 1: return told(am9517_read(chip, reg));
+    case 2: return am9517_pins(chip, reg);
+    case 3: return am9517_reset(chip);
+    case 4: return told(am9517_grant(chip));
+    case 5: return told(am9517_entitled(chip)) + am9517_check(chip);
+    case 6: return told(am9517_status(chip));
+    case 7: {
+        const am9517_round_told r = round_all(k);
+        const uint64_t services = r.services[0] + 3 * (r.services[1] + 3 * (r.services[2] + 3 * (uint64_t)r.services[3]));
+        return r.refusal + 17 * r.reason + 97 * services + 1009 * r.transfers + 10007 * r.used + 100003 * r.written + 1000003 * r.states;
+    }
+    default: {
+        const am9517_run_told r = run_all(k, 0);
+        return r.refusal + 17 * r.reason + 1009 * r.transfers + 10007 * r.used + 100003 * r.written + 1000003 * r.states;
+    }
+    }
+}
+
+static void alike(void)
+{
+    edition = AM9517_EDITION_AM9517A;
+    begin();
+    for (size_t i = 0; i < MEMORY; i++)
+        at.memory[i] = (uint8_t)(i * 31 + i / 253);
+    for (unsigned turn = 0; turn < 3000; turn++) {
+        const uint32_t which = drawn(12), reg = drawn(17), k = drawn(20);
+        const uint8_t byte = (uint8_t)drawn(256);
+        draw_chip(chip);
+        before = at;
+        const uint64_t said = any_call(which, reg, byte, k);
+        after = at;
+        at = before;
+        chip->edition = AM9517_EDITION_INTEL_8237A;
+        expect(any_call(which, reg, byte, k) == said, "both editions say the same", which);
+        expect(chip->edition == AM9517_EDITION_INTEL_8237A, "the edition is kept", which);
+        chip->edition = AM9517_EDITION_AM9517A;
+        expect(same_chip(chip, &after.chip), "both editions leave the same chip", which);
+        expect(memcmp(at.memory, after.memory, sizeof at.memory) == 0 && memcmp(at.room, after.room, sizeof at.room) == 0,
+               "both editions leave the same bytes", which);
+    }
+    expect(guards(), "guards of both editions", 0);
+}
+
+/* ---- padding: the bytes behind the modes and at the end mean nothing */
+
+static void pad(am9517_chip *c, int byte)
+{
+    const am9517_chip fields = *c;
+    memset(c, byte, sizeof *c);
+    for (int n = 0; n < 4; n++) {
+        c->channels[n].base_address = fields.channels[n].base_address;
+        c->channels[n].address = fields.channels[n].address;
+        c->channels[n].base_count = fields.channels[n].base_count;
+        c->channels[n].count = fields.channels[n].count;
+        c->channels[n].mode = fields.channels[n].mode;
+    }
+    memcpy(&c->tc, &fields.tc, offsetof(am9517_chip, command) + 1 - offsetof(am9517_chip, tc));
+}
+
+static void padding(void)
+{
+    static const int bytes[] = {0x00, 0xff, 0xa5};
+    for (int which = 0; which <= LOAD; which++)
+        for (int open = 0; open < 2; open++) {
+            am9517_chip first = am9517_fresh(edition);
+            uint32_t said = 0;
+            for (int i = 0; i < 3; i++) {
+                if (open)
+                    opened(0x94, 3);
+                else
+                    begin();
+                const am9517_chip fresh = am9517_fresh(AM9517_EDITION_AM9517A);
+                if (which == LOAD)
+                    am9517_save(&fresh, at.sheet, sizeof at.sheet);
+                pad(chip, bytes[i]);
+                const uint32_t now = call(which);
+                expect(i == 0 || (now == said && same_chip(chip, &first)), "padding says something", (unsigned long)which);
+                said = now;
+                first = *chip;
+            }
+        }
+}
+
+/* ---- looking calls write nothing: these chips lie where a write ends the program */
+
+#define STILL(edition) \
+    {{{1, 2, 3, 4, 0x84}, {5, 6, 7, 8, 0x44}, {9, 10, 11, 12, 0}, {13, 14, 15, 16, 0xc0}}, 1, 0, 14, 3, 1, 0, 1, 0x12, 2, 0, edition, 0x5a, 0x10}
+static const am9517_chip still[2] = {STILL(AM9517_EDITION_AM9517A), STILL(AM9517_EDITION_INTEL_8237A)};
 
 static void looks(void)
 {
     static const uint8_t body[48] = {1, 0, 2, 0, 3, 0, 4, 0, 0x84, 5, 0, 6, 0, 7, 0, 8, 0, 0x44, 9, 0, 10, 0, 11, 0, 12, 0, 0, 13, 0,
                                      14, 0, 15, 0, 16, 0, 0xc0, 0x10, 1, 0, 14, 0x5a, 0, 3, 2, 1, 0, 1, 0x12};
     begin();
-    expect(am9517_check(&still) == AM9517_OK, "check of a constant", 0);
-    expect(am9517_entitled(&still).value == 1, "entitled of a constant", am9517_entitled(&still).value);
-    expect(am9517_status(&still).value == 0x31, "status of a constant", am9517_status(&still).value);
-    expect(am9517_save(&still, at.sheet + 4, SHEET) == AM9517_OK, "save of a constant", 0);
+    for (int i = 0; i < 2; i++) {
+        expect(am9517_check(&still[i]) == AM9517_OK, "check of a constant", 0);
+        expect(am9517_entitled(&still[i]).value == 1, "entitled of a constant", am9517_entitled(&still[i]).value);
+        expect(am9517_status(&still[i]).value == 0x31, "status of a constant", am9517_status(&still[i]).value);
+    }
+    expect(am9517_save(&still[1], at.sheet + 4, SHEET) == AM9517_SHEET_NO_PLACE && areas_stay(), "no save of an Intel constant", 0);
+    expect(am9517_save(&still[0], at.sheet + 4, SHEET) == AM9517_OK, "save of a constant", 0);
     expect(memcmp(at.sheet + 4, body, sizeof body) == 0, "the sheet's layout", 0);
-    expect(am9517_load(chip, at.sheet + 4, SHEET) == AM9517_OK && same_chip(chip, &still), "and back", 0);
+    expect(am9517_load(chip, at.sheet + 4, SHEET) == AM9517_OK && same_chip(chip, &still[0]), "and back", 0);
 }
 
-int main(void)
+/* What an edition shares with the other, and what it does alone. */
+static void of_edition(uint32_t which)
 {
+    edition = which;
     bad_chips();
     fresh_chips();
-    texts();
     registers();
     services();
     runs_to_memory();
@@ -529,8 +905,25 @@ int main(void)
     whole_memory();
     rounds();
     orders();
-    saved();
     bad_sheets();
+    writes_of_e();
+    eops();
+    copies();
+    edition_kept();
+    padding();
+}
+
+int main(void)
+{
+    of_edition(AM9517_EDITION_AM9517A);
+    of_edition(AM9517_EDITION_INTEL_8237A);
+    intel_sheets();
+    for (uint32_t was = 0; was < 4; was++)
+        loaded_over(was < 3 ? was : 0xffffffffu);
+    alike();
+    edition = AM9517_EDITION_AM9517A;
+    texts();
+    saved();
     loaded();
     looks();
     printf("%u checks, %u wrong\n", checks, wrong);

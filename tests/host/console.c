@@ -1,15 +1,16 @@
 /* The rack console's line protocol, spoken through the C library: what the comparer plays against.
  *
- * `state BYTES` sets the chip's fields, whatever their ranges, and `state` shows them; `sheet` and `load` are the library's.
- * The chip stands between guard bytes. After each command what the looking calls say is held to what the operations say of
- * a copy, and a chip in its ranges must come back whole out of its own sheet. */
+ * `state BYTES` sets the chip's fields, whatever their ranges, and leaves its edition; `full BYTES` sets this, too; `state` and
+ * `full` show them; `sheet` and `load` are the library's. The chip stands between guard bytes. After each command what the
+ * looking calls say is held to what the operations say of a copy, and a chip in its ranges must come back whole out of its
+ * own sheet; an Intel chip, which has none, must be refused by 15, and as an Am9517A come back out of that one's. */
 #include <stdio.h>
 #include <stdlib.h>
 #include <string.h>
 
 #include "am9517.h"
 
-enum { BODY = 48, ARRAY = 65537, MOST = 70000, LINE = 200002, GUARD = 8 };
+enum { BODY = 48, FULL = 50, ARRAY = 65537, MOST = 70000, LINE = 200002, GUARD = 8 };
 
 static struct {
     uint8_t front[GUARD];
@@ -108,18 +109,43 @@ static void get_body(am9517_chip *c, uint8_t *body)
         body[36 + i] = *field(c, i);
 }
 
-/* The chip's sheet has its fields in their places, and gives it back. */
+/* Edition and waits, of which there are none yet, then the body. */
+static void get_full(am9517_chip *c, uint8_t *full)
+{
+    full[0] = c->edition;
+    full[1] = 0;
+    get_body(c, full + 2);
+}
+
+/* An Intel chip has no sheet, and not a byte is written; nor has it one in too few bytes. */
+static void look_at_intel(void)
+{
+    uint8_t sheet[AM9517_SHEET_SIZE];
+    memset(sheet, 0x5a, sizeof sheet);
+    if (am9517_save(chip, sheet, sizeof sheet) != AM9517_SHEET_NO_PLACE)
+        fail("an Intel chip is stored");
+    if (am9517_save(chip, sheet, sizeof sheet - 1) != AM9517_SHEET_SHORT)
+        fail("15 comes before 9");
+    for (size_t i = 0; i < sizeof sheet; i++)
+        if (sheet[i] != 0x5a)
+            fail("a refused sheet was written");
+}
+
+/* The sheet of an Am9517A of the chip's fields has them in their places and gives them back, over a chip of either edition. */
 static void look_at_sheet(void)
 {
-    uint8_t sheet[AM9517_SHEET_SIZE], mine[BODY], theirs[BODY];
-    am9517_chip copy = am9517_fresh();
-    get_body(chip, mine);
-    if (am9517_save(chip, sheet, sizeof sheet) != AM9517_OK || memcmp(sheet, mine, BODY) != 0)
+    uint8_t sheet[AM9517_SHEET_SIZE], mine[FULL], theirs[FULL];
+    am9517_chip copy = *chip, other = am9517_fresh(chip->edition);
+    if (chip->edition != AM9517_EDITION_AM9517A)
+        look_at_intel();
+    copy.edition = AM9517_EDITION_AM9517A;
+    get_full(&copy, mine);
+    if (am9517_save(&copy, sheet, sizeof sheet) != AM9517_OK || memcmp(sheet, mine + 2, BODY) != 0)
         fail("the sheet is not the chip's");
-    if (am9517_load(&copy, sheet, sizeof sheet) != AM9517_OK)
+    if (am9517_load(&other, sheet, sizeof sheet) != AM9517_OK)
         fail("the chip's sheet is refused");
-    get_body(&copy, theirs);
-    if (memcmp(mine, theirs, BODY) != 0)
+    get_full(&other, theirs);
+    if (memcmp(mine, theirs, FULL) != 0)
         fail("the chip is another out of its sheet");
 }
 
@@ -238,6 +264,16 @@ static int command_state(void)
     if (!hex(words[1]) || given_size != BODY)
         return 0;
     set_body(chip, given);
+    say("ok\n");
+    return 1;
+}
+
+static int command_full(void)
+{
+    if (!hex(words[1]) || given_size != FULL || given[1] != 0)
+        return 0;
+    chip->edition = given[0];
+    set_body(chip, given + 2);
     say("ok\n");
     return 1;
 }
@@ -409,7 +445,7 @@ static int command_help(void)
 {
     if (strcmp(words[1], "refusals") != 0)
         return 0;
-    for (unsigned n = 1; n <= 14; n++)
+    for (unsigned n = 1; n <= 15; n++)
         printf("%2u  %s\n", n, am9517_refusal_text(n));
     return 1;
 }
@@ -422,9 +458,20 @@ static int command_show_state(void)
     return 1;
 }
 
+static int command_show_full(void)
+{
+    uint8_t full[FULL];
+    get_full(chip, full);
+    say_bytes("full", full, FULL);
+    return 1;
+}
+
 static int command_fresh(void)
 {
-    *chip = am9517_fresh();
+    uint64_t edition = AM9517_EDITION_AM9517A;
+    if (count == 2 && !small(1, AM9517_EDITION_INTEL_8237A, &edition))
+        return 0;
+    *chip = am9517_fresh((uint32_t)edition);
     say("ok\n");
     return 1;
 }
@@ -443,7 +490,10 @@ static int obey(void)
         return command_show(room, room_size);
     return is("state", 1)    ? command_show_state()
            : is("state", 2)  ? command_state()
+           : is("full", 1)   ? command_show_full()
+           : is("full", 2)   ? command_full()
            : is("fresh", 1)  ? command_fresh()
+           : is("fresh", 2)  ? command_fresh()
            : is("reset", 1)  ? command_reset()
            : is("help", 2)   ? command_help()
            : is("write", 3)  ? command_write()
@@ -482,7 +532,7 @@ int main(void)
     size_t n = 0, got;
     int is_long = 0;
     memset(&cell, 0xc3, sizeof cell);
-    *chip = am9517_fresh();
+    *chip = am9517_fresh(AM9517_EDITION_AM9517A);
     while ((got = fread(part, 1, sizeof part, stdin)) > 0)
         for (size_t i = 0; i < got; i++) {
             if (part[i] == '\n') {

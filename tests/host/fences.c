@@ -71,7 +71,7 @@ static uint16_t word(void)
 /* In its ranges mostly, and in service mostly. */
 static void draw_chip(am9517_chip *chip)
 {
-    *chip = am9517_fresh();
+    *chip = am9517_fresh(drawn(64) == 0 ? 2 : drawn(4) / 3);
     for (int n = 0; n < 4; n++) {
         am9517_channel *c = &chip->channels[n];
         c->base_address = c->address = word();
@@ -121,14 +121,14 @@ static uint64_t call(int fenced, const struct numbers *n)
     }
 }
 
-/* By fields: the byte behind a channel's first nine is padding. */
+/* By fields: the byte behind a channel's first nine is padding, and so is that behind the command. */
 static int same_chip(void)
 {
     const size_t tc = offsetof(am9517_chip, tc);
     for (size_t n = 0; n < 4; n++)
         if (memcmp(chip.at + n * sizeof(am9517_channel), chip.loose + n * sizeof(am9517_channel), 9) != 0)
             return 0;
-    return memcmp(chip.at + tc, chip.loose + tc, sizeof(am9517_chip) - tc) == 0;
+    return memcmp(chip.at + tc, chip.loose + tc, offsetof(am9517_chip, command) + 1 - tc) == 0;
 }
 
 static int turn(uint32_t i)

@@ -1,4 +1,5 @@
-/* Several threads at once: each with a chip and a memory of its own, which must end as alone; and all looking at one chip. */
+/* Several threads at once: each with a chip, of either edition, and a memory of its own, which must end as alone; and all
+ * looking at one chip. */
 #include <pthread.h>
 #include <stdio.h>
 #include <stdlib.h>
@@ -8,7 +9,7 @@
 enum { THREADS = 4, STEPS = 400 };
 
 static const am9517_chip shared = {
-    {{1, 2, 3, 4, 0x84}, {5, 6, 7, 8, 0x44}, {9, 10, 11, 12, 0}, {13, 14, 15, 16, 0xc0}}, 1, 0, 14, 3, 1, 0, 1, 0x12, 0, 2, 0x5a, 0x10};
+    {{1, 2, 3, 4, 0x84}, {5, 6, 7, 8, 0x44}, {9, 10, 11, 12, 0}, {13, 14, 15, 16, 0xc0}}, 1, 0, 14, 3, 1, 0, 1, 0x12, 2, 0, 0, 0x5a, 0x10};
 
 struct job {
     uint32_t seed;
@@ -57,7 +58,7 @@ static void *work(void *given)
 {
     struct job *job = (struct job *)given;
     uint8_t *memory = (uint8_t *)calloc(AM9517_MEMORY_SIZE, 1);
-    am9517_chip chip = am9517_fresh();
+    am9517_chip chip = am9517_fresh(job->seed % 2);
     uint32_t seed = job->seed;
     job->sum = 14695981039346656037u;
     for (int i = 0; i < STEPS && memory != NULL; i++) {

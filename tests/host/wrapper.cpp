@@ -13,6 +13,7 @@
 using am9517::Bytes;
 using am9517::Chip;
 using am9517::ConstBytes;
+using am9517::Edition;
 using am9517::Reason;
 using am9517::Refusal;
 
@@ -20,7 +21,8 @@ static_assert(sizeof(Chip) == sizeof(am9517_chip) && std::is_trivially_copyable_
 static_assert(!std::is_convertible_v<const std::vector<std::uint8_t> &, Bytes>, "constant bytes are not lent to be changed");
 static_assert(!std::is_convertible_v<std::vector<int> &, Bytes>, "ints are no bytes");
 static_assert(std::is_convertible_v<Bytes, ConstBytes> && !std::is_convertible_v<ConstBytes, Bytes>, "one way");
-static_assert(noexcept(std::declval<Chip &>().run({}, {}, {})) && noexcept(Chip()), "nothing throws");
+static_assert(noexcept(std::declval<Chip &>().run({}, {}, {})) && noexcept(Chip()) && noexcept(Chip(Edition::am9517a)), "nothing throws");
+static_assert(!std::is_convertible_v<Edition, Chip> && !std::is_convertible_v<int, Edition>, "an edition is no chip, a number no edition");
 
 static unsigned checks, wrong;
 
@@ -76,10 +78,31 @@ static void registers()
     expect(chip.sheet().refusal() == Refusal::state_range && Chip(copy.fields()) == copy, "no sheet of it");
 }
 
-// Channel 0 moves a block of four bytes, its service open.
-static Chip opened(std::uint8_t mode)
+static void editions()
 {
-    Chip chip;
+    Chip chip(Edition::intel_8237a);
+    const Chip fresh = chip, other(Edition::am9517a);
+    expect(chip.check().ok() && chip.fields().edition == 1 && chip.edition() == Edition::intel_8237a, "an Intel chip");
+    expect(other == Chip() && other.edition() == Edition::am9517a && fresh != other, "chips of two editions are not equal");
+    expect(chip.write(14, 0xff).ok() && chip.fields().mask == 0 && chip != fresh, "a write of E clears the mask");
+    expect(chip.read(14).refusal() == Refusal::wrong_register, "read of E");
+    expect(chip.reset().ok() && chip == fresh, "reset keeps the edition");
+    std::vector<std::uint8_t> record(60, 0xdd);
+    expect(chip.save(record).refusal() == Refusal::sheet_no_place && record[59] == 0xdd, "no sheet of an Intel chip");
+    expect(chip.save(Bytes(record.data(), 55)).refusal() == Refusal::sheet_short, "9 before 15");
+    const auto none = chip.sheet();
+    expect(!none && none.refusal() == Refusal::sheet_no_place && none.value() == am9517::Sheet{}, "none by itself");
+    expect(std::strcmp(none.text(), "form 1 has no place for the edition") == 0, "its text");
+    expect(chip.load(other.sheet().value()).ok() && chip == other, "a sheet makes an Am9517A");
+    chip.fields().edition = 2;
+    expect(chip.check().refusal() == Refusal::state_range && Chip(Edition{7}).check().refusal() == Refusal::state_range, "no edition");
+    expect(am9517::number_of(Edition::am9517a) == 0 && am9517::number_of(Edition::intel_8237a) == 1, "their numbers");
+}
+
+// Channel 0 moves a block of four bytes, its service open.
+static Chip opened(std::uint8_t mode, Edition edition = Edition::am9517a)
+{
+    Chip chip(edition);
     const bool good = chip.write(11, mode).ok() && chip.write(1, 3).ok() && chip.write(1, 0).ok() && chip.write(9, 4).ok();
     expect(good && chip.grant().ok(), "open");
     return chip;
@@ -104,7 +127,9 @@ static void runs()
     Chip reader = opened(0x88);
     std::vector<std::uint8_t> room(6, 0xee);
     const auto out = reader.run(memory, {}, room, am9517::no_limit, 3);
-    expect(out->written == 3 && room[2] == 0x33 && room[3] == 0xee, "EOP at 3");
+    expect(out->written == 3 && room[2] == 0x33 && room[3] == 0xee && reader.fields().tc == 0, "EOP at 3");
+    Chip intel = opened(0x88, Edition::intel_8237a);
+    expect(intel.run(memory, {}, room, am9517::no_limit, 3)->written == 3 && intel.fields().tc == 1, "EOP at 3 sets the TC bit");
 }
 
 static void rounds()
@@ -127,13 +152,15 @@ static void sheets()
     expect(chip.load(record).ok(), "and back");
     record[59] = 0;
     expect(chip.load(record).refusal() == Refusal::sheet_end_mark && chip == Chip(), "end mark");
-    expect(am9517::version() == AM9517_VERSION && am9517::number_of(Refusal::sheet_range) == 14 && am9517::number_of(Reason::quiet) == 7, "numbers");
+    expect(am9517::version() == AM9517_VERSION, "version");
+    expect(am9517::number_of(Refusal::sheet_no_place) == 15 && am9517::number_of(Reason::quiet) == 7, "numbers");
 }
 
 int main()
 {
     spans();
     registers();
+    editions();
     runs();
     rounds();
     sheets();
