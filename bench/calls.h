@@ -15,7 +15,7 @@ enum { C_NOTHING = 7, C_WRITE, C_READ, C_PINS, C_RESET, C_GRANT, C_CHECK, C_ENTI
     am9517_told side##_grant(am9517_chip *); \
     am9517_told side##_entitled(const am9517_chip *); \
     am9517_told side##_status(const am9517_chip *); \
-    am9517_chip side##_fresh(void); \
+    am9517_chip side##_fresh(u32); \
     u32 side##_save(const am9517_chip *, u8 *, usize); \
     u32 side##_load(am9517_chip *, const u8 *, usize); \
     am9517_run_told side##_run(am9517_chip *, u8 *, usize, const u8 *, usize, u8 *, usize, u64, u64); \
@@ -32,7 +32,7 @@ struct calls {
     am9517_told (*grant)(am9517_chip *);
     am9517_told (*entitled)(const am9517_chip *);
     am9517_told (*status)(const am9517_chip *);
-    am9517_chip (*fresh)(void);
+    am9517_chip (*fresh)(u32);
     u32 (*save)(const am9517_chip *, u8 *, usize);
     u32 (*load)(am9517_chip *, const u8 *, usize);
     am9517_run_told (*run)(am9517_chip *, u8 *, usize, const u8 *, usize, u8 *, usize, u64, u64);
@@ -86,7 +86,7 @@ static u64 do_call(int family, int side, const am9517_chip *start, am9517_chip *
     case C_CHECK: TURNS(c->check(chip))
     case C_ENTITLED: TURNS(told_sum(c->entitled(chip)))
     case C_STATUS: TURNS(told_sum(c->status(chip)))
-    case C_FRESH: TURNS((*chip = c->fresh(), chip->mask))
+    case C_FRESH: TURNS((*chip = c->fresh(g->reg), chip->mask))
     case C_SAVE: TURNS(c->save(chip, g->sheet, g->sheet_size))
     case C_LOAD: TURNS(c->load(chip, g->sheet, g->sheet_size))
     case C_RUN:

@@ -80,9 +80,11 @@ static void put_state(u8 *sheet, const struct work *w)
 static u64 do_c_work(const struct work *w, u64 times, u8 *sheet)
 {
     struct given g = {w->reg, w->k, (u8)w->byte, device, memory, room, sheet, LENT, 65536, LENT, 56, 65536, 0};
-    am9517_chip start = am9517_fresh(), chip = start;
+    am9517_chip start = am9517_fresh(AM9517_EDITION_AM9517A), chip = start;
     am9517_load(&start, sheet, 56);
+    if (w->family < C_RUN) start.edition = (u8)w->k;
     u64 sum = do_call(w->family, w->side, &start, &chip, &g, times);
+    chip.edition = AM9517_EDITION_AM9517A; /* a sheet has no place for another */
     am9517_save(&chip, sheet, 56);
     return sum;
 }
@@ -314,27 +316,51 @@ static int differs(void)
            memcmp(outcomes[0].memory, outcomes[1].memory, 65537) || memcmp(outcomes[0].room, outcomes[1].room, 8192);
 }
 
+/* By fields: the byte behind a channel's mode is padding, and so is that behind the command. */
 static int same_chip(const am9517_chip *a, const am9517_chip *b)
 {
     for (int n = 0; n < 4; n++)
-        if (memcmp(&a->channels[n], &b->channels[n], 9) != 0) return 0;
-    return memcmp(&a->tc, &b->tc, 12) == 0;
+        if (memcmp(&a->channels[n], &b->channels[n], offsetof(am9517_channel, mode) + 1) != 0) return 0;
+    return memcmp(&a->tc, &b->tc, offsetof(am9517_chip, command) + 1 - offsetof(am9517_chip, tc)) == 0;
 }
 
-/* One random call of the C library on both sides; 0 where they agree. */
+/* Registers, E often, and editions that a fresh chip is asked for. */
+static u32 random_number(void)
+{
+    switch (random_below(8)) {
+    case 0: return 255 + random_below(4);
+    case 1: return ~0u << random_below(32) | random_below(2);
+    case 2: return 14;
+    default: return random_below(17);
+    }
+}
+
+/* Where EOP comes: not, somewhere, or near the TC of the service that is open. */
+static u64 random_eop(const am9517_chip *c)
+{
+    u32 n = c->command & 1 && c->serving == 0 ? 1 : c->serving & 3;
+    switch (random_below(4)) {
+    case 0: return 0;
+    case 1: return random_near(c->channels[n].count + 1u);
+    default: return random_below(30);
+    }
+}
+
+/* One random call of the C library on both sides, on a chip of either edition, at times of none; 0 where they agree. */
 static int call_differs(void)
 {
     int family = C_WRITE + (int)random_below(C_OVER - C_WRITE), open = random_below(8) ? family == C_RUN : family != C_RUN;
     u8 sheet[56];
-    am9517_chip start = am9517_fresh(), chip[2];
+    am9517_chip start = am9517_fresh(AM9517_EDITION_AM9517A), chip[2];
     u64 told[2];
     put_random_state(sheet, open);
     am9517_load(&start, sheet, 56);
+    start.edition = (u8)(random_below(32) ? random_below(2) : random_below(256));
     if (random_below(4) == 0) ((u8 *)&start)[random_below(sizeof start)] ^= (u8)(1u << random_below(8));
     sheet[random_below(56)] ^= (u8)(random_below(3) ? 0 : 1u << random_below(8));
-    struct given g = {random_below(17), random_below(9) ? random_below(30) : random_near(4096), (u8)random_below(random_below(2) ? 17 : 256), device, 0, 0, 0,
+    struct given g = {random_number(), random_below(9) ? random_below(30) : random_near(4096), (u8)random_below(random_below(2) ? 17 : 256), device, 0, 0, 0,
                       random_below(300), random_below(16) ? 65536 : random_near(65536) & 65535, random_below(300), 56 - random_below(9) / 8,
-                      random_below(2) ? 65536 : random_below(40), random_below(2) ? random_below(30) : 0};
+                      random_below(2) ? 65536 : random_below(40), random_eop(&start)};
     for (int side = PROVED; side <= PLAIN; side++) {
         struct outcome *o = &outcomes[side];
         memcpy(o->sheet, sheet, 56);

@@ -1,6 +1,6 @@
-/* A plain model of document 01 in C: one transfer after the other, each rule where the document has it. It is the
-   measure that the proved controller is held to; bench/check compares the two. plain.c has the works over it, plain_calls.c
-   the calls of the C library by pointer; all take the struct of am9517.h. */
+/* A plain model of document 01, with requests A1 and A2 of document 02, in C: one transfer after the other, each rule where
+   the document has it. It is the measure that the proved controller is held to; bench/check compares the two. plain.c has the
+   works over it, plain_calls.c the calls of the C library by pointer; all take the struct of am9517.h. */
 #include "am9517.h"
 #include "works.h"
 
@@ -22,6 +22,8 @@ struct told {
 
 static int bit(u32 byte, u32 n) { return byte >> n & 1; }
 
+static int intel(const am9517_chip *c) { return c->edition == AM9517_EDITION_INTEL_8237A; }
+
 /* ---- ranges ---- */
 
 static int mode_refused(u8 mode) { return (mode >> 2 & 3) == 3 && mode >> 6 != 3; }
@@ -32,7 +34,7 @@ static int valid(const am9517_chip *c)
         if ((c->channels[n].mode & 3) != 0 || mode_refused(c->channels[n].mode)) return 0;
     if (c->tc > 15 || c->request > 15 || c->mask > 15 || c->pins > 15) return 0;
     if (c->flip_flop > 1 || c->in_service > 1 || c->latch_full > 1) return 0;
-    if (c->lowest > 3 || c->serving > 3) return 0;
+    if (c->lowest > 3 || c->serving > 3 || c->edition > 1) return 0;
     if (!c->in_service && (c->serving || c->latch_full || c->latch)) return 0;
     return c->latch_full || c->latch == 0;
 }
@@ -107,7 +109,7 @@ static u32 write_refusal(const am9517_chip *c, u32 reg, u8 byte)
     if (!valid(c)) return 1;
     if (reg > 15) return 2;
     if (c->in_service) return 3;
-    if (reg == 14) return 4;
+    if (reg == 14 && !intel(c)) return 4;
     return reg == 11 && mode_refused(byte) ? 5 : 0;
 }
 
@@ -122,6 +124,7 @@ static u32 write_register(am9517_chip *c, u32 reg, u8 byte)
     case 11: c->channels[byte & 3].mode = byte & 0xfc; break;
     case 12: c->flip_flop = 0; break;
     case 13: master_clear(c); break;
+    case 14: c->mask = 0; break;
     case 15: c->mask = byte & 15; break;
     default: write_port(c, reg, byte);
     }
@@ -190,7 +193,7 @@ static void finish(am9517_chip *c, int copies, u32 n)
 static int counted_down(am9517_chip *c, int copies, u32 n, int eop)
 {
     int tc = c->channels[n].count-- == 0;
-    if (tc) c->tc |= (u8)(1u << n);
+    if (tc || (eop && intel(c))) c->tc |= (u8)(1u << n);
     if (!tc && !eop) return 0;
     finish(c, copies, n);
     return 1;
@@ -307,7 +310,7 @@ static u32 sum_of(const u8 *body)
     return sum;
 }
 
-/* The state that a sheet's body tells, whatever its ranges. */
+/* The state that a sheet's body tells, whatever its ranges: an Am9517A, for it has no place for the edition. */
 static am9517_chip fields_in(const u8 *sheet)
 {
     am9517_chip c;
@@ -318,6 +321,7 @@ static am9517_chip fields_in(const u8 *sheet)
     }
     c.command = b[0], c.tc = b[1], c.request = b[2], c.mask = b[3], c.temporary = b[4], c.flip_flop = b[5];
     c.pins = b[6], c.lowest = b[7], c.in_service = b[8], c.serving = b[9], c.latch_full = b[10], c.latch = b[11];
+    c.edition = AM9517_EDITION_AM9517A;
     return c;
 }
 

@@ -5,11 +5,12 @@
 #define CALL(name) plain_am9517_##name
 #endif
 
-static const am9517_chip FRESH = {.mask = 15, .lowest = 3};
-
 u32 CALL(version)(void) { return AM9517_VERSION; }
 
-am9517_chip CALL(fresh)(void) { return FRESH; }
+am9517_chip CALL(fresh)(u32 edition)
+{
+    return (am9517_chip){.mask = 15, .lowest = 3, .edition = edition < 255 ? (u8)edition : 255};
+}
 
 u32 CALL(check)(const am9517_chip *chip) { return !valid(chip); }
 
@@ -85,6 +86,7 @@ u32 CALL(save)(const am9517_chip *chip, u8 *sheet, usize size)
 {
     if (!valid(chip)) return 1;
     if (size < AM9517_SHEET_SIZE) return 9;
+    if (intel(chip)) return 15;
     write_sheet(chip, sheet + size - AM9517_SHEET_SIZE);
     return 0;
 }
