@@ -22,6 +22,7 @@ use console_text::page::text;
 ghost use mathlib.Core.Path.{_≡_};
 ghost use Prim.Native.Nat.{_*_, _≤_, _/_};
 ghost use lib.ListN.{length, take};
+ghost use Rattle.am9517.specs.Editions.{numberOf};
 ghost use Rattle.am9517.specs.State.{fresh};
 ghost use Rattle.am9517.specs.Answers.{resetOf, grantOf};
 ghost use Rattle.console_text.specs.Text.{page, put};
@@ -112,14 +113,23 @@ pub fn make_fresh(out: &mut [u8], at: usize) -> Spoken
     agree(out, at, next)
 }
 
+fn edition_of(e: u32) -> Edition
+    requires { ⌜ e ≤ 1 ⌝ }
+    ensures { λ r. ⌜ numberOf r ≡ e ⌝ }
+{
+    match e {
+        0 => Edition::Am9517A,
+        _ => Edition::Intel8237A,
+    }
+}
+
 pub fn fresh_of(c: Controller, edition: &[u8], out: &mut [u8], at: usize) -> Spoken
     ensures { λ r. ⌜ said r (now (out .exit)) ≡ saying (page (now (out .entry)) at) (freshReply c (now (edition .entry))) ⌝ }
 {
     let said = number_of(edition, 1);
     match said {
         Number::Value(e) => {
-            let mut next = Controller::fresh(Edition::Am9517A);
-            next.edition = e as u8;
+            let next = Controller::fresh(edition_of(e));
             agree(out, at, next)
         }
         Number::Bad => fault(out, at, c),

@@ -9,6 +9,7 @@ use crate::forms::word_behind;
 use crate::forms::words_in;
 use crate::say::quoted;
 use crate::say::row;
+use crate::say::rows_of;
 use console_show::rows::form_end;
 use console_show::rows::row_from;
 use console_text::line::same;
@@ -169,7 +170,7 @@ pub(crate) fn error_in(held: Held, rows: &[u8], line: &[u8], out: &mut [u8], at:
     let fitting = row_of(rows, name, n);
     if rows.len() <= fitting {
         let next = miscount(out, at, rows, first, line);
-        return row(out, next, rows, first);
+        return rows_of(out, next, rows, name);
     }
     let next = misfit(out, at, held, rows, fitting, name, line);
     row(out, next, rows, fitting)

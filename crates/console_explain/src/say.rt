@@ -1,5 +1,6 @@
-// Parts of an explanation: a word between quotes, a row of help.
+// Parts of an explanation: a word between quotes, rows of help.
 use console_show::rows::row_end;
+use console_show::rows::row_from;
 use console_text::page::byte;
 use console_text::page::text;
 ghost use Prim.Native.Nat.{_≤_};
@@ -37,4 +38,21 @@ pub(crate) fn row(out: &mut [u8], at: usize, rows: &[u8], from: usize) -> usize
     let next = text(out, at, b"    ");
     let next = text(out, next, &rows[from..end]);
     byte(out, next, b'\n')
+}
+
+// The rows of this name; none has more than four.
+pub(crate) fn rows_of(out: &mut [u8], at: usize, rows: &[u8], name: &[u8]) -> usize {
+    let mut next = at;
+    let mut from = row_from(rows, name, 0);
+    let mut turns: usize = 4;
+    while turns > 0 {
+        turns -= 1;
+        if rows.len() <= from {
+            return next;
+        }
+        next = row(out, next, rows, from);
+        let end = row_end(rows, from);
+        from = row_from(rows, name, end);
+    }
+    next
 }

@@ -47,6 +47,7 @@ use Rattle.words.proofs.ChoiceLaws.{when-both, when-over, never}
 use Rattle.words.proofs.GroundLaws.{first-over}
 use Rattle.am9517_service.proofs.KeepLaws.{Supplied, run-ind}
 use Rattle.am9517_service.proofs.AnswerLaws.{run-refused, run-accepted}
+use Rattle.demands.proofs.Sheets.{zero-written, intel-refused}
 
 -- the world with its controller of this edition
 abbrev inWorld : ℕ → World → World
@@ -558,4 +559,11 @@ register-e s b v i =
     (ap (λ (n : ℕ). outcome n (intel s) (afterWrite (intel s) 0xE b) Done) (e-number (intel s) b v i), ap (λ (n : ℕ). outcome n (ours s) (afterWrite (ours s) 0xE b) Done) (e-number (ours s) b (sym (valid-in s) ∙ v) i))
 
 pub editions-differ : EditionsDiffer
-editions-differ = record { shared = shared; kept = kept; registerE = register-e; metEop = λ s m d r limit eop h. (run-says s m d r limit eop, run-met s m d r limit eop h) }
+editions-differ =
+    record {
+      shared = shared;
+      kept = kept;
+      registerE = register-e;
+      metEop = λ s m d r limit eop h. (run-says s m d r limit eop, run-met s m d r limit eop h);
+      sheets = λ s out v room. (intel-refused (intel s) out v refl room, zero-written (ours s) out (sym (valid-in s) ∙ v) refl room);
+    }

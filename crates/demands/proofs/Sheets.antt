@@ -46,7 +46,7 @@ read-copied t bytes out byte done room =
     ∙ ap (stored Done) (placed-last out (sheetOf One s) 56 (sheet-length One s) room)
     ∙ ap (λ (xs : List ℕ). stored Done (take (length out - 56) out ++ xs)) sheet
 
-zero-written : (s : Controller) (out : List ℕ) → valid s ≡ true → s .edition ≡ numberOf Am9517A → 56 ≤ length out → sheetWriteOf One s out .answer ≡ Done
+pub zero-written : (s : Controller) (out : List ℕ) → valid s ≡ true → s .edition ≡ numberOf Am9517A → 56 ≤ length out → sheetWriteOf One s out .answer ≡ Done
 zero-written s out v e room = ap (λ (w : Stored). w .answer) (write-done One s out (write-free One s (length out) v room (zero-within s e)))
 
 pub intel-refused : (s : Controller) (out : List ℕ) → valid s ≡ true → s .edition ≡ numberOf Intel8237A → 56 ≤ length out → sheetWriteOf One s out ≡ stored (Refused 15) out

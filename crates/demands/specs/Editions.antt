@@ -1,9 +1,10 @@
 -- Document 02, A2: "What both editions share is shown once." How little differs: one state, as an Am9517A's and as an Intel chip's, does the same in
--- every operation but a write of register E, a run that meets external EOP, and the writing of a sheet (Sheets `noPlace`).
+-- every operation but a write of register E, a run that meets external EOP, and the writing of a sheet.
 use Prim.Native.Nat.{ℕ, _≤_, _<_}
 use mathlib.Core.Path.{_≡_}
 use mathlib.Core.Bool.{true}
 use mathlib.Core.List.{List}
+use lib.ListN.{length}
 use Rattle.words.specs.Bits.{withBit}
 use Rattle.am9517.specs.Editions.{numberOf}
 use Rattle.am9517.specs.Fields.{put, Edition, Mask, Tc}
@@ -20,8 +21,9 @@ use Rattle.am9517_service.specs.Ends.{counting}
 use Rattle.am9517_service.specs.Answers.{ranOf}
 use Rattle.am9517_service.specs.RoundAnswers.{roundedOf}
 use Rattle.am9517_sheet.specs.declared.SheetAnswer.{SheetAnswer}
+use Rattle.am9517_sheet.specs.declared.SheetAnswer.the-variants as sheet
 use Rattle.am9517_sheet.specs.declared.forms.Form.the-variants.{One}
-use Rattle.am9517_sheet.specs.Sheet.{sheetWriteOf, sheetReadOf}
+use Rattle.am9517_sheet.specs.Sheet.{stored, sheetWriteOf, sheetReadOf}
 use Rattle.demands.specs.Operations.{Op, Write, Read, Pins, Reset, Grant, Run, Round, SheetWriting, SheetReading, Scene, scene, after, next}
 
 -- the state as an Am9517A's, and as an Intel chip's
@@ -92,3 +94,6 @@ pub record EditionsDiffer : Type 0 where
   pub metEop : (s : Controller) (m d r : List ℕ) (limit eop : ℕ) → MeetsEop (ours s) m d r limit eop
       → (reply (intel s) (Run m d r limit eop) ≡ reply (ours s) (Run m d r limit eop))
       × (after (intel s) (Run m d r limit eop) ≡ withTc (counting s) (asIntel (after (ours s) (Run m d r limit eop))))
+  -- "Form 1 has no place for the edition: writing such a state is refusal 15", where ours is written.
+  pub sheets : (s : Controller) (out : List ℕ) → valid (intel s) ≡ true → 56 ≤ length out
+      → (sheetWriteOf One (intel s) out ≡ stored (sheet.Refused 15) out) × (sheetWriteOf One (ours s) out .answer ≡ sheet.Done)

@@ -40,7 +40,7 @@ pub record Owner : Type 2 where
   -- Document 02, A1: in every run of memory-to-memory channel 0 steps with each transfer, by nothing else, and ends nothing.
   pub copies : CopyLoop
   -- Document 02, A2: the two editions differ in a write of register E, in the TC bit where external EOP is met, in the writing of a sheet, and in
-  -- nothing else; the edition is kept.
+  -- nothing else; nothing changes the edition but the reading of a sheet.
   pub editions : EditionsDiffer
   -- Demand 3's numbers can't be better.
   pub tight : Tight

@@ -1,21 +1,19 @@
 use Rattle.console_text.proofs.NumberLaws.{number-fits}
 use Rattle.console_chip.specs.Answers.{numbered}
 use mathlib.Core.Path.{sym, _∙_}
-use native.Mathlib.Omega.{arith}
 use borrow.Author.Needs.{needs}
 use Rattle.console_chip.proofs.control.fresh_of.Statement.{statement}
 use Rattle.console_chip.proofs.control.fresh_of.Tie as tie
 
-cast-next : tie.Need-cast-next
-cast-next c =
-    omega (arith, number-fits 1 _ _ (sym (c .before .before .before .before .number-of .ensures) ∙ c .before .before .said .given .1))
+edition-of-requires : tie.Need-edition-of-requires
+edition-of-requires c κs = number-fits 1 _ _ (sym (c .before .before .before .number-of .ensures) ∙ c .before .said .given .1)
 
 returns : tie.Need-returns
 unfolding numbered
 returns c =
-    let at-agree = c .before .before in let at-fresh = at-agree .before .before in let at-said = at-fresh .before .before in
-    let at-number-of = at-said .before .before in
-    simp (sym (at-number-of .number-of .ensures) ∙ at-said .said .given .1) (rw (at-fresh .fresh .ensures) at (at-agree .agree .ensures))
+    let at-agree = c .before .before in let at-fresh = at-agree .before .before in let at-edition-of = at-fresh .before in
+    let at-said = at-edition-of .before .before in let at-number-of = at-said .before .before in
+    simp (sym (at-number-of .number-of .ensures) ∙ at-said .said .given .1) (rw (at-fresh .fresh .ensures, at-edition-of .edition-of .ensures) at (at-agree .agree .ensures))
 
 returns-2 : tie.Need-returns-2
 unfolding numbered
@@ -24,5 +22,5 @@ returns-2 c =
     simp (sym (at-number-of .number-of .ensures) ∙ at-enum-told .enum-told .given .1) (at-fault .fault .ensures)
 
 pub fresh-of-spec : {M : Type 1} → statement M
-fresh-of-spec = tie.close (tie.spec (search needs) (search needs) (search needs) cast-next (search needs) (search needs) (search needs)
+fresh-of-spec = tie.close (tie.spec (search needs) (search needs) edition-of-requires (search needs) (search needs) (search needs) (search needs)
     (search needs) returns (search needs) returns-2)
