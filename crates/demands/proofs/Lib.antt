@@ -11,4 +11,6 @@ pub mod Calls
 pub mod Sheets
 pub mod Steps
 pub mod Copies
+pub mod EditionRunLaws
+pub mod EditionRoundLaws
 pub mod Editions
