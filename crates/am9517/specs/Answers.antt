@@ -1,13 +1,13 @@
 -- What each operation hands back, for all inputs. "Every operation takes the state and hands the next one back": the state is the
--- first argument of writeOf, readOf, pinsOf, resetOf and grantOf, and the next one a field of what they give.
+-- first argument of writeOf, readOf, pinsOf, resetOf, waitsOf and grantOf, and the next one a field of what they give.
 use Prim.Native.Nat.{ℕ}
 use lib.Dec.{eqb}
 use Rattle.words.specs.Choice.{when}
 use Rattle.am9517.specs.State.{cleared}
-use Rattle.am9517.specs.Fields.{put, Pins}
+use Rattle.am9517.specs.Fields.{put, Pins, Waits}
 use Rattle.am9517.specs.Serving.{picked, granted}
 use Rattle.am9517.specs.Registers.{afterWrite, value, afterRead}
-use Rattle.am9517.specs.Refusals.{refusal, writeGrounds, readGrounds, pinsGrounds, resetGrounds, grantGrounds}
+use Rattle.am9517.specs.Refusals.{refusal, writeGrounds, readGrounds, pinsGrounds, resetGrounds, waitsGrounds, grantGrounds}
 use Rattle.am9517.specs.declared.Controller.{Controller}
 use Rattle.am9517.specs.declared.Answer.{Answer}
 use Rattle.am9517.specs.declared.Answer.the-variants.{Done, Value, Refused}
@@ -37,6 +37,10 @@ pinsOf s p = outcome (refusal (pinsGrounds s p)) s (put s Pins p) Done
 
 abbrev pub resetOf : Controller → Outcome
 resetOf s = outcome (refusal (resetGrounds s)) s (cleared s) Done
+
+-- "a byte of wait states, set by its own call"
+abbrev pub waitsOf : Controller → ℕ → Outcome
+waitsOf s n = outcome (refusal (waitsGrounds s)) s (put s Waits n) Done
 
 abbrev pub grantOf : Controller → Outcome
 grantOf s = outcome (refusal (grantGrounds s)) s (granted s (picked s)) (Value (picked s))

@@ -49,5 +49,9 @@ pinsGrounds s p = 1 if not (valid s) ∷ 2 if ltb 15 p ∷ []
 abbrev pub resetGrounds : Controller → List (Ground ℕ)
 resetGrounds s = 1 if not (valid s) ∷ []
 
+-- document 02, A3: wait states are "set by its own call when idle (refusals 1, 3)"
+abbrev pub waitsGrounds : Controller → List (Ground ℕ)
+waitsGrounds s = 1 if not (valid s) ∷ 3 if busy s ∷ []
+
 abbrev pub grantGrounds : Controller → List (Ground ℕ)
 grantGrounds s = 1 if not (valid s) ∷ 3 if busy s ∷ 6 if eqb (picked s) 4 ∷ []

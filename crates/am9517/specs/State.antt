@@ -13,7 +13,8 @@ abbrev pub ended : Controller → Controller
 ended s = put (put (put (put s InService 0) Serving 0) LatchFull 0) Latch 0
 
 -- "Reset clears command, TC bits, request bits, temporary byte and flip-flop, sets all mask bits and ends any service (000);
--- lowest becomes 3; addresses, counts, modes and pins stay (*ruling*)." So does the edition, "kept in it through reset"
+-- lowest becomes 3; addresses, counts, modes and pins stay (*ruling*)." So does the edition, "kept in it through reset",
+-- and so do the wait states, "unchanged by reset"
 abbrev pub cleared : Controller → Controller
 cleared s =
     let t = put (put (put (put (put s Command 0) Tc 0) Request 0) Temporary 0) FlipFlop 0 in

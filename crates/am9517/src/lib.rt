@@ -9,8 +9,8 @@ use words::choice::when_word;
 ghost use mathlib.Core.Path.{_≡_};
 ghost use Rattle.am9517.specs.Editions.{numberOf};
 ghost use Rattle.am9517.specs.State.{fresh};
-ghost use Rattle.am9517.specs.Refusals.{refusal, writeGrounds, readGrounds, pinsGrounds, resetGrounds, grantGrounds};
-ghost use Rattle.am9517.specs.Answers.{refusalNumber, writeOf, readOf, pinsOf, resetOf, grantOf};
+ghost use Rattle.am9517.specs.Refusals.{refusal, writeGrounds, readGrounds, pinsGrounds, resetGrounds, waitsGrounds, grantGrounds};
+ghost use Rattle.am9517.specs.Answers.{refusalNumber, writeOf, readOf, pinsOf, resetOf, waitsOf, grantOf};
 
 pub mod editions;
 pub mod modes;
@@ -51,6 +51,7 @@ pub struct Controller {
     pub edition: u8,
     pub temporary: u8,
     pub command: u8,
+    pub waits: u8,
 }
 
 // Which maker's data sheet a controller follows; its number is the state's field `edition`.
@@ -98,6 +99,7 @@ impl Controller {
             latch_full: 0,
             latch: 0,
             edition: edition_number(edition),
+            waits: 0,
         }
     }
 
@@ -209,6 +211,22 @@ impl Controller {
         let no = next.reset_refusal();
         if no == 0 {
             next = next.cleared();
+        }
+        let answer = answered(no, Answer::Done);
+        Outcome {
+            controller: next,
+            answer,
+        }
+    }
+
+    // The memory cards hold each transfer for so many states more.
+    pub fn waits(self, states: u8) -> Outcome
+        ensures { λ r. ⌜ (r ≡ waitsOf self states) × (refusalNumber (r .answer) ≡ refusal (waitsGrounds self)) ⌝ }
+    {
+        let mut next = self;
+        let no = next.waits_refusal();
+        if no == 0 {
+            next.waits = states;
         }
         let answer = answered(no, Answer::Done);
         Outcome {

@@ -4,7 +4,7 @@ use crate::editions::is_intel;
 use crate::modes::mode_refused;
 use words::choice::when;
 ghost use mathlib.Core.Path.{_≡_};
-ghost use Rattle.am9517.specs.Refusals.{refusal, writeGrounds, readGrounds, pinsGrounds, resetGrounds, grantGrounds};
+ghost use Rattle.am9517.specs.Refusals.{refusal, writeGrounds, readGrounds, pinsGrounds, resetGrounds, waitsGrounds, grantGrounds};
 ghost use Rattle.am9517.specs.Serving.{picked};
 
 impl Controller {
@@ -57,6 +57,13 @@ impl Controller {
         ensures { λ r. ⌜ r ≡ refusal (resetGrounds self) ⌝ }
     {
         when(!self.valid(), 1, 0)
+    }
+
+    pub(crate) fn waits_refusal(self) -> u8
+        ensures { λ r. ⌜ r ≡ refusal (waitsGrounds self) ⌝ }
+    {
+        let no = when(self.in_service != 0, 3, 0);
+        when(!self.valid(), 1, no)
     }
 
     // n is the channel picked.

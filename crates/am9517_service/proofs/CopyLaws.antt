@@ -26,6 +26,7 @@ use Rattle.am9517_service.specs.World.{World, world, startOf, withContro
 use Rattle.am9517_service.specs.Stops.{stops}
 use Rattle.am9517_service.specs.Ends.{counting, reachesTc, finished, afterTcOrEop, single}
 use Rattle.am9517_service.specs.Transfer.{stepped}
+use Rattle.am9517_service.specs.States.{copyPace}
 use Rattle.am9517_service.specs.Copy.{sourceNext, copied, sourceAfter}
 use Rattle.am9517_service.specs.Run.{transferred, runOf}
 use Rattle.am9517_service.specs.ClosedLegs.{addressAfter, currentAfter}
@@ -37,7 +38,7 @@ use Rattle.am9517_service.proofs.SpanLaws.{Until, until}
 use Rattle.am9517_service.proofs.RunLaws.{Free, Gives, run-stop, transferred-copied}
 use Rattle.am9517_service.proofs.RunWayLaws.{Way, way-on, way-end, neither-left, neither-right}
 use Rattle.am9517_service.proofs.CopySourceLaws.{source-none, source-more}
-use Rattle.am9517_service.proofs.TransferLaws.{inside-of, count-left, stepped-current-after, stepped-first, address-after-none, current-after-count}
+use Rattle.am9517_service.proofs.TransferLaws.{next-mul, inside-of, count-left, stepped-current-after, stepped-first, address-after-none, current-after-count}
 
 -- two places set again
 two-again : (l : List Channel) (x y x' y' : Channel) → set (set (set (set l 0 x) 1 y) 0 x') 1 y' ≡ set (set l 0 x') 1 y'
@@ -52,7 +53,7 @@ copiedWith w from to =
     let c = w .controller in
     let byte = getD (w .memory) (from .address) 0 in
     world (withChannel (withChannel (put c Temporary byte) 0 (sourceNext (addressHold (c .command)) from)) 1 (stepped to)) (set (w .memory) (to .address) byte) (w .room)
-    (plus (w .counts) (counts 1 0 0 8))
+    (plus (w .counts) (counts 1 0 0 (copyPace (c .waits))))
 
 copied-by : (w : World) (from to : Channel) → channel (w .controller) 0 ≡ from → channel (w .controller) 1 ≡ to → copied w ≡ copiedWith w from to
 unfolding copied
@@ -103,15 +104,16 @@ module _ (c : Controller) (m r : List ℕ) where
       let n = j + 1 in
       let byte = moving (n - 1) in
       let back : j + 1 + 1 - 1 ≡ j + 1 = omega arith in
-      let states : (j + 1) * 8 + 8 ≡ (j + 1 + 1) * 8 = omega arith in
+      let p = copyPace (c .waits) in
+      let states : (j + 1) * p + p ≡ (j + 1 + 1) * p = sym (next-mul (j + 1) p) in
       let chs : set (set (set (set (c .channels) 0 (sent n)) 1 (currentAfter to n)) 0 (sourceNext (addressHold (c .command)) (sent n))) 1 (stepped (currentAfter to n)) ≡ both (n + 1) =
       two-again (c .channels) (sent n) (currentAfter to n) (sourceNext (addressHold (c .command)) (sent n)) (stepped (currentAfter to n))
       ∙ ap (λ (x : Channel). set (set (c .channels) 0 x) 1 (stepped (currentAfter to n))) (source-more (addressHold (c .command)) from n)
       ∙ ap (λ (y : Channel). set (set (c .channels) 0 (sent (n + 1))) 1 y) (stepped-current-after to n) in
       copied-by (copiedAll c m r n) (sent n) (currentAfter to n) (sent-there n byte nz) (got-there n byte nz)
-      ∙ ap (λ (l : List Channel). shape l (moving n) (set (bytes n) (addressAfter to n) (moving n)) (n + 1) (n * 8 + 8)) chs
-      ∙ ap (λ (l : List ℕ). shape (both (n + 1)) (moving n) l (n + 1) (n * 8 + 8)) (bytes-more n)
-      ∙ ap (λ (k : ℕ). shape (both (n + 1)) (moving k) (bytes (n + 1)) (n + 1) (n * 8 + 8)) (sym back)
+      ∙ ap (λ (l : List Channel). shape l (moving n) (set (bytes n) (addressAfter to n) (moving n)) (n + 1) (n * p + p)) chs
+      ∙ ap (λ (l : List ℕ). shape (both (n + 1)) (moving n) l (n + 1) (n * p + p)) (bytes-more n)
+      ∙ ap (λ (k : ℕ). shape (both (n + 1)) (moving k) (bytes (n + 1)) (n + 1) (n * p + p)) (sym back)
       ∙ ap (λ (k : ℕ). shape (both (n + 1)) (moving (n + 1 - 1)) (bytes (n + 1)) (n + 1) k) states
 
   bytes-none : bytes 0 ≡ m
@@ -121,17 +123,20 @@ module _ (c : Controller) (m r : List ℕ) where
   first-copy : to .address < 65536 → copied (startOf c m r) ≡ copiedAll c m r 1
   unfolding copiedAll
   first-copy goal =
+      let p = copyPace (c .waits) in
+      let once : 0 + p ≡ 1 * p = omega arith in
       let start : sourceNext (addressHold (c .command)) from ≡ sent 1 = ap (sourceNext (addressHold (c .command))) (sym (source-none (addressHold (c .command)) from)) ∙ source-more (addressHold (c .command)) from 0 in
       let chs : set (set (c .channels) 0 (sourceNext (addressHold (c .command)) from)) 1 (stepped to) ≡ both 1 =
       ap (λ (x : Channel). set (set (c .channels) 0 x) 1 (stepped to)) start ∙ ap (λ (y : Channel). set (set (c .channels) 0 (sent 1)) 1 y) (stepped-first to) in
       let byte : getD m (from .address) 0 ≡ moving 0 = ap (λ (x : Channel). getD m (x .address) 0) (sym (source-none (addressHold (c .command)) from)) ∙ ap (λ (l : List ℕ). getD l (sent 0 .address) 0) (sym bytes-none) in
       let place : to .address ≡ addressAfter to 0 = sym (address-after-none to goal) in
       copied-by (startOf c m r) from to refl refl
-      ∙ ap (λ (l : List Channel). shape l (getD m (from .address) 0) (set m (to .address) (getD m (from .address) 0)) 1 8) chs
-      ∙ ap (λ (b : ℕ). shape (both 1) b (set m (to .address) b) 1 8) byte
-      ∙ ap (λ (a : ℕ). shape (both 1) (moving 0) (set m a (moving 0)) 1 8) place
-      ∙ ap (λ (l : List ℕ). shape (both 1) (moving 0) (set l (addressAfter to 0) (moving 0)) 1 8) (sym bytes-none)
-      ∙ ap (λ (l : List ℕ). shape (both 1) (moving 0) l 1 8) (bytes-more 0)
+      ∙ ap (λ (l : List Channel). shape l (getD m (from .address) 0) (set m (to .address) (getD m (from .address) 0)) 1 (0 + p)) chs
+      ∙ ap (λ (b : ℕ). shape (both 1) b (set m (to .address) b) 1 (0 + p)) byte
+      ∙ ap (λ (a : ℕ). shape (both 1) (moving 0) (set m a (moving 0)) 1 (0 + p)) place
+      ∙ ap (λ (l : List ℕ). shape (both 1) (moving 0) (set l (addressAfter to 0) (moving 0)) 1 (0 + p)) (sym bytes-none)
+      ∙ ap (λ (l : List ℕ). shape (both 1) (moving 0) l 1 (0 + p)) (bytes-more 0)
+      ∙ ap (shape (both 1) (moving 0) (bytes 1) 1) once
 
   pub copying-none : reachedCopying c m r 0 ≡ startOf c m r
   unfolding reachedCopying when

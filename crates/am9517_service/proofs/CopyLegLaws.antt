@@ -121,7 +121,7 @@ module _ (c : Controller) (m d r : List ℕ) (limit eop : ℕ) (ic : memoryToMem
   abbrev led : ℕ → Bool → World
   led n stays =
       world (afterCopy c (copyLegOf (c .edition) (channel c 0) (channel c 1) (bitsOf c) (addressHold (c .command)) n eop) (lastByte (routeIn c) m n) stays) (carriedBy (routeIn c) m n) r
-      (counts n 0 0 (n * copyPace))
+      (counts n 0 0 (n * copyPace (c .waits)))
 
   pub record CopyLed (s : Span) : Type 0 where
     pub most : s .transfers ≤ 65536
@@ -177,12 +177,12 @@ module _ (c : Controller) (m d r : List ℕ) (limit eop : ℕ) (ic : memoryToMem
       → (hold : Bool) → hold ≡ addressHold (c .command) → (b : Bits) → b ≡ bitsOf c → (l : Copied) → l ≡ copyLegOf (c .edition) source target b hold (s .transfers) eop
       → (byte : ℕ) → byte ≡ lastByte (routeOf hold source target) m (s .transfers) → (m' : List ℕ) → m' ≡ carriedBy (routeOf hold source target) m (s .transfers)
       → (stays : Bool) → stays ≡ staysOpen (s .why) → (x : Controller) → x ≡ afterCopy c l byte stays
-      → (k₀ : Counts) → k₀ ≡ none → (k : Counts) → k ≡ plus k₀ (counts (s .transfers) 0 0 (s .transfers * copyPace))
+      → (k₀ : Counts) → k₀ ≡ none → (k : Counts) → k ≡ plus k₀ (counts (s .transfers) 0 0 (s .transfers * copyPace (c .waits)))
       → (a : Ran) → a ≡ record { controller = x; answer = Stopped (s .why); counts = k } → given a m' r ≡ stopped ran
   unfolding stopped
   copy-answer s e some source es target eg hold eh b eb l el byte ey m' em stays et x ex k₀ e₀ k ek a ea =
       let n = s .transfers in
       let last = led n (staysOpen (s .why)) in
       rw (ea, ex, el, ey, em, et, eb, eh, es, eg, ek, e₀)
-      (ap (λ (q : Counts). given (record { controller = last .controller; answer = Stopped (s .why); counts = q }) (last .memory) r) (none-plus (counts n 0 0 (n * copyPace)))
+      (ap (λ (q : Counts). given (record { controller = last .controller; answer = Stopped (s .why); counts = q }) (last .memory) r) (none-plus (counts n 0 0 (n * copyPace (c .waits))))
       ∙ ap stopped (sym (copy-led s e .some some)))

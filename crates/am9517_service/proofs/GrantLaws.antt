@@ -24,6 +24,10 @@ pub granted-open : (c : Controller) (n : ℕ) → granted c n .«in_service» �
 unfolding granted
 granted-open c n = refl
 
+pub granted-waits : (c : Controller) (n : ℕ) → granted c n .waits ≡ c .waits
+unfolding granted
+granted-waits c n = refl
+
 granted-busy : (c : Controller) (n : ℕ) → granted c n .«in_service» ≡ 0 → ⊥
 granted-busy c n e = omega (arith, granted-open c n)
 

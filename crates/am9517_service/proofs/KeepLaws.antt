@@ -12,13 +12,15 @@ use Rattle.words.specs.Grounds.{Ground, first}
 use Rattle.words.specs.Bits.{withBit}
 use Rattle.am9517.specs.State.{ended}
 use Rattle.am9517.specs.Fields.{channel, withChannel, put, Request}
-use Rattle.am9517.specs.Modes.{compressed, addressHold, autoinitialize, isCascade}
+use Rattle.am9517.specs.Modes.{addressHold, autoinitialize, isCascade}
 use Rattle.am9517.specs.declared.Controller.{Controller}
 use Rattle.am9517_service.specs.declared.Reason.{Reason}
 use Rattle.am9517_service.specs.declared.Reason.the-variants.{Ended, Dropped, Cascade, Limit, Short}
 use Rattle.am9517_service.specs.World.{World, withController, memoryToMemory, servingChannel, Stop, stop}
 use Rattle.am9517_service.specs.Stops.{dropped, short, stops}
-use Rattle.am9517_service.specs.States.{pace, copyPace, needsS1, cost}
+use Rattle.am9517_service.specs.States.{copyPace, needsS1, cost}
+use Rattle.am9517_service.specs.Bounds.{mostWaits, mostCopyPace}
+use Rattle.am9517_service.proofs.TransferLaws.{pace-most}
 use Rattle.am9517_service.specs.Transfer.{writes, reads, moved}
 use Rattle.am9517_service.specs.Copy.{sourceNext, copied}
 use Rattle.am9517_service.specs.Ends.{bitsOf, withBits, setsTcBit, bitsAfter, channelAfter, finished, afterTcOrEop, single, reachesTc, ends}
@@ -71,19 +73,22 @@ module _ (P : ℕ → World → Type 0) (Q : Stop → Type 0) (eop : ℕ) (d : L
       through-stops (suc left) w _ p (λ s. through-ends left (w .controller) (transferred w d) _ (step left w p s) (run-ind left (transferred w d) (step left w p s)))
 
 -- Lengths stay, and the counts have their bounds.
-pub record Counted (memory room bytes most : ℕ) (w : World) : Type 0 where
+pub record Counted (memory room bytes most waits : ℕ) (w : World) : Type 0 where
   pub memory-length : length (w .memory) ≡ memory
   pub room-length : length (w .room) ≡ room
   pub used : w .counts .used ≤ bytes
   pub written : w .counts .written ≤ room
   pub transfers : w .counts .transfers ≤ most
-  pub states : w .counts .states ≤ w .counts .transfers * copyPace
+  pub slow : w .controller .waits ≡ waits
+  pub states : waits ≤ mostWaits → w .counts .states ≤ w .counts .transfers * mostCopyPace
 
-cost-most : (c : Controller) (a : ℕ) → cost c a ≤ copyPace
-unfolding cost pace
-cost-most c a =
-    let p : when (compressed (c .command)) 2 3 ≤ 3 = when-both (λ (x : ℕ). x ≤ 3) (compressed (c .command)) (omega arith) (omega arith) in
-    omega (arith, when-le (needsS1 c a) 1)
+cost-most : (c : Controller) (a : ℕ) → c .waits ≤ mostWaits → cost c a ≤ mostCopyPace
+unfolding cost
+cost-most c a h = omega (arith, pace-most (c .command) (c .waits) h, when-le (needsS1 c a) 1)
+
+copy-most : (waits : ℕ) → waits ≤ mostWaits → copyPace waits ≤ mostCopyPace
+unfolding copyPace
+copy-most waits h = omega arith
 
 -- one more by a test stays within a bound where the test leaves room
 one-within : (t : Bool) (x n : ℕ) → x ≤ n → (t ≡ true → x < n) → x + when t 1 0 ≤ n
@@ -98,12 +103,17 @@ supplied-bytes : (t : Bool) (a b : ℕ) (rest : Bool) → t && leb b a || rest �
 supplied-bytes true a b rest e h = leb-false b a (neither-left (leb b a) rest e)
 supplied-bytes false a b rest e h = never (sym h)
 
-module _ (M R : ℕ) (d : List ℕ) where
+-- TC and EOP leave the wait states
+over-waits : (c : Controller) (tc eop : Bool) → afterTcOrEop c tc eop .waits ≡ c .waits
+unfolding afterTcOrEop finished
+over-waits c tc eop = when-both (λ (x : Controller). x .waits ≡ c .waits) (memoryToMemory c) refl refl
+
+module _ (M R ω : ℕ) (d : List ℕ) where
   -- with left more transfers allowed, of most in all
   abbrev Within : ℕ → ℕ → World → Type 0
-  Within most left w = Counted M R (length d) (most - left) w × (left ≤ most)
+  Within most left w = Counted M R (length d) (most - left) ω w × (left ≤ most)
 
-  moved-counted : (most left : ℕ) (w : World) → Within most (suc left) w → short w d ≡ false → Counted M R (length d) (most - left) (moved w d)
+  moved-counted : (most left : ℕ) (w : World) → Within most (suc left) w → short w d ≡ false → Counted M R (length d) (most - left) ω (moved w d)
   unfolding moved short
   moved-counted most left w p s =
       let c = p .0 in
@@ -116,10 +126,11 @@ module _ (M R : ℕ) (d : List ℕ) where
         used = one-within (writes ch) (w .counts .used) (length d) (c .used) bytes;
         written = one-within (reads ch) (w .counts .written) R (c .written) (λ e. omega (arith, space e, c .room-length));
         transfers = omega (arith, c .transfers, p .1);
-        states = omega (arith, c .states, cost-most (w .controller) (ch .address));
+        slow = c .slow;
+        states = λ h. omega (arith, c .states h, cost-most (w .controller) (ch .address) (rw (c .slow) h));
       }
 
-  copied-counted : (most left : ℕ) (w : World) → Within most (suc left) w → Counted M R (length d) (most - left) (copied w)
+  copied-counted : (most left : ℕ) (w : World) → Within most (suc left) w → Counted M R (length d) (most - left) ω (copied w)
   unfolding copied
   copied-counted most left w p =
       let c = p .0 in
@@ -129,24 +140,25 @@ module _ (M R : ℕ) (d : List ℕ) where
         used = omega (arith, c .used);
         written = omega (arith, c .written);
         transfers = omega (arith, c .transfers, p .1);
-        states = omega (arith, c .states);
+        slow = c .slow;
+        states = λ h. omega (arith, c .states h, copy-most (w .controller .waits) (rw (c .slow) h));
       }
 
   step-counted : (most left : ℕ) (w : World) → Within most (suc left) w → Supplied w d → Within most left (transferred w d)
   unfolding transferred
   step-counted most left w p s =
-      (when-each (λ (x : World). Counted M R (length d) (most - left) x) (memoryToMemory (w .controller)) (λ ic. copied-counted most left w p) (λ nc. moved-counted most left w p (s nc)), omega (arith, p .1))
+      (when-each (λ (x : World). Counted M R (length d) (most - left) ω x) (memoryToMemory (w .controller)) (λ ic. copied-counted most left w p) (λ nc. moved-counted most left w p (s nc)), omega (arith, p .1))
 
-  counted-on : (most left : ℕ) (w : World) (c : Controller) → Counted M R (length d) (most - left) w → Counted M R (length d) most (withController w c)
-  counted-on most left w c p =
-      record { memory-length = p .memory-length; room-length = p .room-length; used = p .used; written = p .written; transfers = omega (arith, p .transfers); states = p .states }
+  counted-on : (most left : ℕ) (w : World) (c : Controller) → c .waits ≡ w .controller .waits → Counted M R (length d) (most - left) ω w → Counted M R (length d) most ω (withController w c)
+  counted-on most left w c e p =
+      record { memory-length = p .memory-length; room-length = p .room-length; used = p .used; written = p .written; transfers = omega (arith, p .transfers); slow = e ∙ p .slow; states = p .states }
 
   -- What a run of most transfers counts at the most.
-  pub run-counted : (most eop : ℕ) (w : World) → Counted M R (length d) 0 w → Counted M R (length d) most (runOf most eop d w .world)
+  pub run-counted : (most eop : ℕ) (w : World) → Counted M R (length d) 0 ω w → Counted M R (length d) most ω (runOf most eop d w .world)
   run-counted most eop w p =
-      run-ind (Within most) (λ (s : Stop). Counted M R (length d) most (s .world)) eop d (step-counted most)
-      (λ left x e n q. counted-on most left x (x .controller) (q .0)) (λ left x q. counted-on most left x _ (q .0)) (λ left x tc e q. counted-on most left x _ (q .0)) (λ left x q. counted-on most left x _ (q .0))
-      most w (record { memory-length = p .memory-length; room-length = p .room-length; used = p .used; written = p .written; transfers = omega (arith, p .transfers); states = p .states }, omega arith)
+      run-ind (Within most) (λ (s : Stop). Counted M R (length d) most ω (s .world)) eop d (step-counted most)
+      (λ left x e n q. counted-on most left x (x .controller) refl (q .0)) (λ left x q. counted-on most left x _ refl (q .0)) (λ left x tc e q. counted-on most left x _ (over-waits (x .controller) tc e) (q .0)) (λ left x q. counted-on most left x _ refl (q .0))
+      most w (record { memory-length = p .memory-length; room-length = p .room-length; used = p .used; written = p .written; transfers = omega (arith, p .transfers); slow = p .slow; states = p .states }, omega arith)
 
 -- A run keeps the ranges and the lowest channel, and leaves no service open where it says "ended".
 pub record Sound (l : ℕ) (c : Controller) : Type 0 where

@@ -110,8 +110,8 @@ module _ (c : Controller) (m d r : List ℕ) (limit eop : ℕ) (nc : memoryToMem
   -- the world after n transfers
   abbrev led : ℕ → Bool → World
   led n stays =
-      world (afterLeg c (c .serving) (legOf (c .edition) (c .serving) chan (bitsOf c) s1 (pace (c .command)) n eop) stays) (stored chan d m n) (loaded chan m r n)
-      (countsOf chan n (statesOf chan (pace (c .command)) s1 n))
+      world (afterLeg c (c .serving) (legOf (c .edition) (c .serving) chan (bitsOf c) s1 (pace (c .command) (c .waits)) n eop) stays) (stored chan d m n) (loaded chan m r n)
+      (countsOf chan n (statesOf chan (pace (c .command) (c .waits)) s1 n))
 
   pub record Led (s : Span) : Type 0 where
     pub most : s .transfers ≤ 65536
@@ -151,7 +151,7 @@ module _ (c : Controller) (m d r : List ℕ) (limit eop : ℕ) (nc : memoryToMem
         ends h =
             run-ends c m d r limit eop nc nd ns below small most refl h
             ∙ ap (λ (w : World). stop (withController w (when (eqb most (chan .count + 1) || eqb most eop) (finished (w .controller) (w .controller .serving) (eqb most (chan .count + 1)) (eqb most eop)) (ended (w .controller)))) Ended) (reached-some c m d r most (u .some))
-            ∙ ap (λ (x : Controller). stop (withController (travelled c m d r most) x) Ended) (ended-leg c most s1 (pace (c .command)) eop)
+            ∙ ap (λ (x : Controller). stop (withController (travelled c m d r most) x) Ended) (ended-leg c most s1 (pace (c .command) (c .waits)) eop)
 
     led-halted : leb most (least limit stock) ≡ false → Led (span (least limit stock) (halt limit stock))
     unfolding travelled
@@ -177,7 +177,7 @@ module _ (c : Controller) (m d r : List ℕ) (limit eop : ℕ) (nc : memoryToMem
 
         goes : least limit stock < most → 0 < least limit stock → stop (travelled c m d r (least limit stock)) (halt limit stock) ≡ stop (led (least limit stock) (staysOpen (halt limit stock))) (halt limit stock)
         goes h z =
-            ap (λ (x : Controller). stop (withController (travelled c m d r (least limit stock)) x) (halt limit stock)) (open-leg c (least limit stock) s1 (pace (c .command)) eop (quiet h z))
+            ap (λ (x : Controller). stop (withController (travelled c m d r (least limit stock)) x) (halt limit stock)) (open-leg c (least limit stock) s1 (pace (c .command) (c .waits)) eop (quiet h z))
             ∙ ap (λ (b : Bool). stop (led (least limit stock) b) (halt limit stock)) (sym (halt-open limit stock))
 
   pub leg-run : Led (spanOf chan (active c (c .serving)) (length d) (length r) limit eop)
@@ -209,7 +209,7 @@ module _ (c : Controller) (m d r : List ℕ) (limit eop : ℕ) (nc : memoryToMem
     leg-stocked size = rw serves (leg-led .stocked size)
 
     -- what the run answers, told by the parts of the leg
-    pub leg-answer : 0 < s .transfers → (l : Leg) → l ≡ legOf (c .edition) i ch (bitsOf c) (needsS1 c (ch .address)) (pace (c .command)) (s .transfers) eop
+    pub leg-answer : 0 < s .transfers → (l : Leg) → l ≡ legOf (c .edition) i ch (bitsOf c) (needsS1 c (ch .address)) (pace (c .command) (c .waits)) (s .transfers) eop
         → (m' : List ℕ) → m' ≡ stored ch d m (s .transfers) → (r' : List ℕ) → r' ≡ loaded ch m r (s .transfers)
         → (stays : Bool) → stays ≡ staysOpen (s .why) → (x : Controller) → x ≡ afterLeg c i l stays
         → (k₀ : Counts) → k₀ ≡ none → (k : Counts) → k ≡ plus k₀ (countsOf ch (s .transfers) (l .states))

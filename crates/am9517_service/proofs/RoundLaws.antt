@@ -16,15 +16,15 @@ use Rattle.am9517_service.specs.declared.Reason.{Reason}
 use Rattle.am9517_service.specs.declared.Reason.the-variants.{Ended, Dropped, Cascade, Limit, Short}
 use Rattle.am9517_service.specs.declared.RoundAnswer.the-variants.{Done, Quiet, Stopped, Refused}
 use Rattle.am9517_service.specs.World.{Stop, startOf}
-use Rattle.am9517_service.specs.ClosedLegs.{mostTransfers, mostStates}
-use Rattle.am9517_service.specs.Round.{Course, Close, close, beginning, nobody, runNext, withRun, isEnded, roundOf}
+use Rattle.am9517_service.specs.Bounds.{mostWaits, mostTransfers, mostStates}
+use Rattle.am9517_service.specs.Round.{afterNext, Course, Close, close, beginning, nobody, runNext, withRun, isEnded, roundOf}
 use Rattle.am9517_service.specs.RoundAnswers.{closed, roundGrounds, roundedOf}
 use Rattle.words.proofs.ChoiceLaws.{when-hit, when-miss, never}
 use Rattle.words.proofs.GroundLaws.{passed}
 use Rattle.am9517.proofs.RangeLaws.{ranges, of-ranges}
 use Rattle.am9517.proofs.KeepLaws.{granted-kept}
 use Rattle.am9517_service.proofs.KeepLaws.{Counted, run-counted, Left, run-left}
-use Rattle.am9517_service.proofs.GrantLaws.{granted-open, picked-below}
+use Rattle.am9517_service.proofs.GrantLaws.{granted-open, granted-waits, picked-below}
 
 -- What a round answers: refused, or the round.
 pub round-refused : (c : Controller) (m d r : List ℕ) (k n : ℕ) → refusal (roundGrounds c m k) ≡ n → (n ≡ 0 → ⊥) → closed (close (beginning c m r) (Refused n)) ≡ roundedOf c m d r k
@@ -64,17 +64,60 @@ one-more (x ∷ xs) (suc n) b h (suc i) = one-more xs n b (λ k. h (suc k)) i
 pub tail-length : (a : ℕ) (xs ys : List ℕ) → length ys ≡ length (drop a xs) → length (take a xs ++ ys) ≡ length xs
 tail-length a xs ys e = length-append (take a xs) ys ∙ ap (λ (k : ℕ). length (take a xs) + k) e ∙ sym (length-append (take a xs) (drop a xs)) ∙ ap length (take-append-drop a xs)
 
--- Where a round stands: idle and in range, its counts bounded by the services begun, and what is left of it comes to o.
-pub record Rolling (d : List ℕ) (size : ℕ) (o : Close) (left begun : ℕ) (w : Course) : Type 0 where
-  pub range : valid (w .controller) ≡ true
-  pub idle : w .controller .«in_service» ≡ 0
-  pub memory : length (w .memory) ≡ 65536
+-- What a round has counted, bounded by the services begun.
+pub record Tally (d : List ℕ) (size begun : ℕ) (w : Course) : Type 0 where
   pub room : length (w .room) ≡ size
   pub used : w .totals .used ≤ length d
   pub written : w .totals .written ≤ size
   pub services : (i : ℕ) → getD (w .services) i 0 ≤ begun
   pub transfers : w .totals .transfers ≤ begun * mostTransfers
   pub states : w .totals .states ≤ begun * mostStates
+  pub waits : w .controller .waits ≤ mostWaits
+
+pub tally-start : (c : Controller) (m d r : List ℕ) → c .waits ≤ mostWaits → Tally d (length r) 0 (beginning c m r)
+tally-start c m d r h = record { room = refl; used = omega arith; written = omega arith; services = none; transfers = omega arith; states = omega arith; waits = h }
+  where
+    none : (j : ℕ) → getD (0 ∷ 0 ∷ 0 ∷ 0 ∷ []) j 0 ≤ 0
+    none zero = omega arith
+    none (suc zero) = omega arith
+    none (suc (suc zero)) = omega arith
+    none (suc (suc (suc zero))) = omega arith
+    none (suc (suc (suc (suc j)))) = omega arith
+
+module _ (d : List ℕ) (size begun : ℕ) (w : Course) (t : Tally d size begun w) where
+  counted : Counted (length (w .memory)) (length (drop (w .totals .written) (w .room))) (length (drop (w .totals .used) d)) 65536 (w .controller .waits) (runNext w d .world)
+  unfolding runNext
+  counted =
+      let n = picked (w .controller) in
+      run-counted (length (w .memory)) (length (drop (w .totals .written) (w .room))) (w .controller .waits) (drop (w .totals .used) d) 65536 0 (startOf (granted (w .controller) n) (w .memory) (drop (w .totals .written) (w .room)))
+      (record { memory-length = refl; room-length = refl; used = omega arith; written = omega arith; transfers = omega arith; slow = granted-waits (w .controller) n; states = λ h. omega arith })
+
+  -- one service more
+  pub tally-on : Tally d size (begun + 1) (afterNext w d)
+  unfolding withRun
+  tally-on =
+      let bytes = length-drop (w .totals .used) d in
+      let space = length-drop (w .totals .written) (w .room) in
+      record {
+        room = tail-length (w .totals .written) (w .room) (runNext w d .world .room) (counted .room-length) ∙ t .room;
+        used = omega (arith, counted .used, bytes, t .used);
+        written = omega (arith, counted .written, space, t .written, t .room);
+        services = one-more (w .services) (picked (w .controller)) begun (t .services);
+        transfers = omega (arith, counted .transfers, t .transfers);
+        states = omega (arith, counted .states (t .waits), counted .transfers, t .states);
+        waits = rw (counted .slow) (t .waits);
+      }
+
+  memory-on : length (afterNext w d .memory) ≡ length (w .memory)
+  unfolding withRun
+  memory-on = counted .memory-length
+
+-- Where a round stands: idle and in range, and what is left of it comes to o.
+pub record Rolling (d : List ℕ) (size : ℕ) (o : Close) (left begun : ℕ) (w : Course) : Type 0 where
+  pub range : valid (w .controller) ≡ true
+  pub idle : w .controller .«in_service» ≡ 0
+  pub memory : length (w .memory) ≡ 65536
+  pub tally : Tally d size begun w
   pub same : roundOf left d w ≡ o
 
 module _ (d : List ℕ) (size : ℕ) (o : Close) (left begun : ℕ) (w : Course) (g : Rolling d size o left begun w) where
@@ -107,12 +150,6 @@ module _ (d : List ℕ) (size : ℕ) (o : Close) (left begun : ℕ) (w : Course)
       pub rolling-stops : isEnded (s .reason) ≡ false → close (withRun w n s) (Stopped (s .reason)) ≡ o
       rolling-stops h = sym (when-hit _ _ _ (ap not h)) ∙ on
 
-      counted : Counted 65536 (length (drop (w .totals .written) (w .room))) (length (drop (w .totals .used) d)) 65536 (s .world)
-      unfolding runNext
-      counted =
-          rw is at (run-counted 65536 (length (drop (w .totals .written) (w .room))) (drop (w .totals .used) d) 65536 0 (startOf c (w .memory) (drop (w .totals .written) (w .room)))
-          (record { memory-length = g .memory; room-length = refl; used = omega arith; written = omega arith; transfers = omega arith; states = omega arith }))
-
       leaves : Left (c .lowest) s
       unfolding runNext
       leaves =
@@ -122,29 +159,14 @@ module _ (d : List ℕ) (size : ℕ) (o : Close) (left begun : ℕ) (w : Course)
       pub rolling-on : isEnded (s .reason) ≡ true → Rolling d size o (left - 1) (begun + 1) (withRun w n s)
       unfolding withRun
       rolling-on h =
-          let bytes = length-drop (w .totals .used) d in
-          let space = length-drop (w .totals .written) (w .room) in
           record {
             range = of-ranges _ (leaves .ranges);
             idle = leaves .idle (ended-is (s .reason) h);
-            memory = counted .memory-length;
-            room = tail-length (w .totals .written) (w .room) (s .world .room) (counted .room-length) ∙ g .room;
-            used = omega (arith, counted .used, bytes, g .used);
-            written = omega (arith, counted .written, space, g .written, g .room);
-            services = one-more (w .services) n begun (g .services);
-            transfers = omega (arith, counted .transfers, g .transfers);
-            states = omega (arith, counted .states, counted .transfers, g .states);
+            memory = (rw is at (memory-on d size begun w (g .tally))) ∙ g .memory;
+            tally = rw is at (tally-on d size begun w (g .tally));
             same = sym (when-miss _ _ _ (ap not h)) ∙ on;
           }
 
 -- where a round begins
-pub rolling-start : (k : ℕ) (c : Controller) (m d r : List ℕ) → valid c ≡ true → c .«in_service» ≡ 0 → length m ≡ 65536 → Rolling d (length r) (roundOf k d (beginning c m r)) k 0 (beginning c m r)
-rolling-start k c m d r v i size =
-    record { range = v; idle = i; memory = size; room = refl; used = omega arith; written = omega arith; services = none; transfers = omega arith; states = omega arith; same = refl }
-  where
-    none : (j : ℕ) → getD (0 ∷ 0 ∷ 0 ∷ 0 ∷ []) j 0 ≤ 0
-    none zero = omega arith
-    none (suc zero) = omega arith
-    none (suc (suc zero)) = omega arith
-    none (suc (suc (suc zero))) = omega arith
-    none (suc (suc (suc (suc j)))) = omega arith
+pub rolling-start : (k : ℕ) (c : Controller) (m d r : List ℕ) → valid c ≡ true → c .«in_service» ≡ 0 → c .waits ≤ mostWaits → length m ≡ 65536 → Rolling d (length r) (roundOf k d (beginning c m r)) k 0 (beginning c m r)
+rolling-start k c m d r v i h size = record { range = v; idle = i; memory = size; tally = tally-start c m d r h; same = refl }

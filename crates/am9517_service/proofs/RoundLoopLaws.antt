@@ -13,7 +13,7 @@ use Rattle.words.specs.Bits.{bit}
 use Rattle.words.specs.Steps.{steps}
 use Rattle.words.specs.Spans.{spread}
 use Rattle.am9517.specs.Fields.{channel, withChannel, put, LatchFull, Latch, Temporary, Lowest}
-use Rattle.am9517.specs.Modes.{memoryToMemoryBit, addressHold, compressed, rotating, decrement, isWrite, isRead, isSingle}
+use Rattle.am9517.specs.Modes.{memoryToMemoryBit, addressHold, rotating, decrement, isWrite, isRead, isSingle}
 use Rattle.am9517.specs.Ranges.{valid}
 use Rattle.am9517.specs.Refusals.{refusal}
 use Rattle.am9517.specs.Serving.{picked, granted}
@@ -38,6 +38,7 @@ use Rattle.am9517_service.specs.World.{World, world, memoryToMemory, sto
 use Rattle.am9517_service.specs.Transfer.{stepped, writes, reads}
 use Rattle.am9517_service.specs.Ends.{bitsOf, withBits}
 use Rattle.am9517_service.specs.States.{pace, copyPace}
+use Rattle.am9517_service.specs.Bounds.{mostWaits, mostPace, mostTransfers, mostStates, mostServices, mostRoundTransfers, mostRoundStates}
 use Rattle.am9517_service.specs.Round.{Course, course, Close, close, beginning, runNext, withRun, nobody, isEnded, roundOf}
 use Rattle.am9517_service.specs.RoundAnswers.{roundGiven, closed, roundGrounds, roundedOf}
 use Rattle.am9517_service.specs.ClosedLegs.{addressAfter, currentAfter, statesOf, countsOf, stored, loaded, legOf}
@@ -50,7 +51,7 @@ use Rattle.words.proofs.SpreadLaws.{length-spread}
 use Rattle.am9517.proofs.RangeLaws.{fields}
 use Rattle.am9517.proofs.KeepLaws.{modes-kept}
 use Rattle.am9517.proofs.ServingLaws.{lines-same, blocks-same, picked-most}
-use Rattle.am9517_service.proofs.TransferLaws.{next-mul, states-most}
+use Rattle.am9517_service.proofs.TransferLaws.{next-mul, states-most, pace-most}
 use Rattle.am9517_service.proofs.RoundLaws.{ended-is, tail-length, round-refused, round-accepted, Rolling, rolling-start, rolling-done, rolling-quiet, rolling-on, rolling-stops}
 use Rattle.am9517_service.proofs.RoundTurnLaws.{resting, AtRest, at-rest, settles, next-is, counts-same, alone-plus, led-stocked, led-few, turn-stood, still-open, stays-open, leg-ended, leg-halted, turn-alone, turn-copied}
 use Rattle.am9517_service.proofs.CopySourceLaws.{source-mode}
@@ -73,16 +74,16 @@ pub record Looping (k : ℕ) (d : List ℕ) (size : ℕ) (o : Close) (f : Facts)
 resting-own : (c : Controller) → resting c (c .lowest) ≡ c
 resting-own c = ap (λ (x : ℕ). put c Lowest x) (when-same (rotating (c .command)) (c .lowest))
 
-pub looping-start : (k : ℕ) (c : Controller) (m d r : List ℕ) (f : Facts) (nexts : List ℕ) → valid c ≡ true → c .«in_service» ≡ 0 → length m ≡ 65536 → k ≤ 4096 → f ≡ factsOf c → nexts ≡ nextsOf f (c .mask) (c .request)
+pub looping-start : (k : ℕ) (c : Controller) (m d r : List ℕ) (f : Facts) (nexts : List ℕ) → valid c ≡ true → c .«in_service» ≡ 0 → c .waits ≤ mostWaits → length m ≡ 65536 → k ≤ 4096 → f ≡ factsOf c → nexts ≡ nextsOf f (c .mask) (c .request)
     → length d < 2 ^ 64 → length r < 2 ^ 64 → Looping k d (length r) (roundOf k d (beginning c m r)) f c (0 ∷ 0 ∷ 0 ∷ 0 ∷ []) none nexts 0 (c .lowest) k m r
-looping-start k c m d r f nexts v e size most ef en hd hr =
+looping-start k c m d r f nexts v e h size most ef en hd hr =
     let zero : k - k - 0 ≡ 0 = omega arith in
     let begun : k - k ≡ 0 = omega arith in
     let free : withAlone none (k - k - 0) (f .pace) ≡ none = ap (λ (x : ℕ). withAlone none x (f .pace)) zero ∙ counts-same _ _ _ _ _ _ _ _ (omega arith) refl refl (omega arith) in
     let all : course (resting c (c .lowest)) m r (0 ∷ 0 ∷ 0 ∷ 0 ∷ []) (withAlone none (k - k - 0) (f .pace)) ≡ beginning c m r =
     ap (λ (x : Controller). course x m r (0 ∷ 0 ∷ 0 ∷ 0 ∷ []) (withAlone none (k - k - 0) (f .pace))) (resting-own c) ∙ ap (course c m r (0 ∷ 0 ∷ 0 ∷ 0 ∷ [])) free in
     record {
-      rolling = rw (all, begun) (rolling-start k c m d r v e size);
+      rolling = rw (all, begun) (rolling-start k c m d r v e h size);
       facts = ef;
       listed = en;
       place = omega (arith, fields c v .lowest);
@@ -101,13 +102,13 @@ stopped-answer Cascade done h = refl
 stopped-answer Limit done h = refl
 stopped-answer Short done h = refl
 
-abbrev facts : ℕ → ℕ → ℕ → Facts
-facts command lines blocks =
-    record { rotating = rotating command; copier = when (memoryToMemoryBit command) 0 4; hold = addressHold command; pace = pace command; lines = lines; blocks = blocks }
+abbrev facts : ℕ → ℕ → ℕ → ℕ → Facts
+facts command waits lines blocks =
+    record { rotating = rotating command; copier = when (memoryToMemoryBit command) 0 4; hold = addressHold command; pace = pace command waits; lines = lines; blocks = blocks; waits = waits }
 
-facts-same : (s x : Controller) → x .command ≡ s .command → x .pins ≡ s .pins → ((i : ℕ) → channel x i .mode ≡ channel s i .mode) → factsOf s ≡ factsOf x
-facts-same s x ec ep em =
-    ap (λ (k : ℕ). facts k (linesOf s) (blocksOf s)) (sym ec) ∙ ap (λ (k : ℕ). facts (x .command) k (blocksOf s)) (sym (lines-same s x ec ep)) ∙ ap (facts (x .command) (linesOf x)) (sym (blocks-same s x ec em))
+facts-same : (s x : Controller) → x .command ≡ s .command → x .waits ≡ s .waits → x .pins ≡ s .pins → ((i : ℕ) → channel x i .mode ≡ channel s i .mode) → factsOf s ≡ factsOf x
+facts-same s x ec ew ep em =
+    ap (λ (k : ℕ). facts k (s .waits) (linesOf s) (blocksOf s)) (sym ec) ∙ ap (λ (k : ℕ). facts (x .command) k (linesOf s) (blocksOf s)) (sym ew) ∙ ap (λ (k : ℕ). facts (x .command) (x .waits) k (blocksOf s)) (sym (lines-same s x ec ep)) ∙ ap (facts (x .command) (x .waits) (linesOf x)) (sym (blocks-same s x ec em))
 
 module _ (k : ℕ) (d : List ℕ) (size : ℕ) (o : Close) (f : Facts) (s : Controller) (services : List ℕ) (n : Counts) (nexts : List ℕ) (longs i left : ℕ) (m r : List ℕ) (g : Looping k d size o f s services n nexts longs i left m r) where
   abbrev total : Counts
@@ -161,16 +162,16 @@ module _ (k : ℕ) (d : List ℕ) (size : ℕ) (o : Close) (f : Facts) (s : Cont
     -- the service ended, and the loop goes on
     pub turned : (v : World) → runNext W d ≡ stop v Ended → (s' : Controller) (m' r' : List ℕ) (n' : Counts) (nexts' : List ℕ) (longs' : ℕ)
         → v .controller ≡ resting s' j → v .memory ≡ m' → take (n .written) r ++ v .room ≡ r' → plus total (v .counts) ≡ withAlone n' (k - (left - 1) - longs') (f .pace)
-        → s' .command ≡ s .command → s' .pins ≡ s .pins → ((x : ℕ) → channel s' x .mode ≡ channel s x .mode) → nexts' ≡ nextsOf f (s' .mask) (s' .request) → longs' ≤ k - (left - 1)
+        → s' .command ≡ s .command → s' .waits ≡ s .waits → s' .pins ≡ s .pins → ((x : ℕ) → channel s' x .mode ≡ channel s x .mode) → nexts' ≡ nextsOf f (s' .mask) (s' .request) → longs' ≤ k - (left - 1)
         → Looping k d size o f s' services' n' nexts' longs' j (left - 1) m' r'
-    turned v is s' m' r' n' nexts' longs' ec em er en ek ep modes el few =
+    turned v is s' m' r' n' nexts' longs' ec em er en ek ew ep modes el few =
         let begun : k - left + 1 ≡ k - (left - 1) = omega (arith, g .fewer) in
         let on : Rolling d size o (left - 1) (k - left + 1) (withRun W (picked (resting s i)) (stop v Ended)) = rolling-on d size o left (k - left) W (g .rolling) more some (stop v Ended) is refl in
         let there : withRun W (picked (resting s i)) (stop v Ended) ≡ course (resting s' j) m' r' services' (withAlone n' (k - (left - 1) - longs') (f .pace)) =
         behind v Ended ∙ rw (ec, em, er, en) refl in
         record {
           rolling = rw (there, begun) at on;
-          facts = g .facts ∙ facts-same s s' ek ep modes;
+          facts = g .facts ∙ facts-same s s' ek ew ep modes;
           listed = el;
           place = who-below;
           fewer = omega (arith, g .fewer);
@@ -207,25 +208,24 @@ ends-by left x e more = go (ltb 0 left) (eqb x 4) refl refl e
     go true false ea eb h = never h
     go false b ea eb h = absurd (more (omega (arith, ltb-false 0 left ea)))
 
-pub pace-low : (f : Facts) (s : Controller) → f ≡ factsOf s → f .pace ≤ 3
-unfolding pace
-pace-low f s e = rw e (when-both (λ (x : ℕ). x ≤ 3) (compressed (s .command)) (omega arith) (omega arith))
+pace-low : (f : Facts) (s : Controller) → f ≡ factsOf s → s .waits ≤ mostWaits → f .pace ≤ mostPace
+pace-low f s e h = rw e (pace-most (s .command) (s .waits) h)
 
 module _ (k : ℕ) (d : List ℕ) (size : ℕ) (o : Close) (f : Facts) (s : Controller) (services : List ℕ) (n : Counts) (nexts : List ℕ) (longs i left : ℕ) (m r : List ℕ) (g : Looping k d size o f s services n nexts longs i left m r) where
   -- what is counted fits its type, with room for one service more
   pub record Fits : Type 0 where
-    pub transfers : n .transfers + 65536 < 2 ^ 32
-    pub states : n .states + 65536 * 9 < 2 ^ 33
+    pub transfers : n .transfers + mostTransfers < 2 ^ 32
+    pub states : n .states + mostStates < 2 ^ 38
     pub used : n .used ≤ length d
     pub written : n .written ≤ length r
-    pub pace : f .pace ≤ 3
+    pub pace : f .pace ≤ mostPace
 
   pub fits : Fits
   fits =
-      let low = pace-low f s (g .facts) in
-      let t : n .transfers ≤ 4096 * 65536 = omega (arith, g .rolling .transfers, g .most) in
-      let u : n .states ≤ 4096 * 524288 = omega (arith, g .rolling .states, g .most) in
-      record { transfers = omega arith; states = omega arith; used = g .rolling .used; written = omega (arith, g .rolling .written, g .rolling .room); pace = low }
+      let low = pace-low f s (g .facts) (g .rolling .tally .waits) in
+      let t : n .transfers ≤ mostRoundTransfers = omega (arith, g .rolling .tally .transfers, g .most) in
+      let u : n .states ≤ mostRoundStates = omega (arith, g .rolling .tally .states, g .most) in
+      record { transfers = omega arith; states = omega arith; used = g .rolling .tally .used; written = omega (arith, g .rolling .tally .written, g .rolling .tally .room); pace = low }
 
   -- the loop is left: all services were begun, or nobody is entitled
   pub looping-left : (ltb 0 left && not (eqb (getD nexts i 0) 4)) ≡ false → roundGiven (rounded (settledOf s i (f .rotating) (staysOpen Ended)) (answerOf Ended (eqb left 0)) services (withAlone n (k - left - longs) (f .pace))) m r ≡ closed o
@@ -243,7 +243,7 @@ module _ (k : ℕ) (d : List ℕ) (size : ℕ) (o : Close) (f : Facts) (s : Cont
     next-below = who-below k d size o f s services n nexts longs i left m r g (goes-on left j test .0) j refl (goes-on left j test .1)
 
     pub services-below : getD services j 0 < 4096
-    services-below = omega (arith, g .rolling .services j, g .most, g .fewer, goes-on left j test .0)
+    services-below = omega (arith, g .rolling .tally .services j, g .most, g .fewer, goes-on left j test .0)
 
     pub longs-below : longs < 4096
     longs-below = omega (arith, g .long, g .most, g .fewer, goes-on left j test .0)
@@ -339,7 +339,7 @@ module _ (k : ℕ) (d : List ℕ) (size : ℕ) (o : Close) (f : Facts) (s : Cont
   abbrev all : Counts
   all = withAlone n (k - left - longs) (f .pace)
 
-  pace-is : pace (s .command) ≡ f .pace
+  pace-is : pace (s .command) (s .waits) ≡ f .pace
   pace-is = ap (λ (x : Facts). x .pace) (sym (g .facts))
 
   turns-is : rotating (s .command) ≡ f .rotating
@@ -383,7 +383,7 @@ module _ (k : ℕ) (d : List ℕ) (size : ℕ) (o : Close) (f : Facts) (s : Cont
       some-count z = eqb-false _ _ (not-true _ (both-left (not (eqb count 0)) (not (eqb q (f .copier))) last-two)) (ec ∙ z)
 
       run-is : runNext (course (resting s i) m r services all) d
-          ≡ stop (world (resting (withChannel s q (stepped ch)) q) (stored ch (drop (n .used) d) m 1) (loaded ch m (drop (n .written) r) 1) (countsOf ch 1 (pace (s .command) + 1))) Ended
+          ≡ stop (world (resting (withChannel s q (stepped ch)) q) (stored ch (drop (n .used) d) m 1) (loaded ch m (drop (n .written) r) 1) (countsOf ch 1 (pace (s .command) (s .waits) + 1))) Ended
       run-is =
           turn-alone s i q resting-now m d r services all who' (rw (sym ea) ha) (rw (sym ec) hc) (serves-device s i q f (g .facts) no-copier) (sym es ∙ both-left single (not (eqb count 0) && not (eqb q (f .copier))) may-is) some-count
           (found-some ch may (length d - n .used) (length r - n .written) here)
@@ -401,13 +401,13 @@ module _ (k : ℕ) (d : List ℕ) (size : ℕ) (o : Close) (f : Facts) (s : Cont
           ∙ ap (λ (a : ℕ). when (isRead (ch .mode)) (take (n .written) r ++ spread (λ (x : ℕ). x) (steps 16 (decrement (ch .mode)) a) m (drop (n .written) r) 1) r) (sym ea)
           ∙ ap (λ (b : Bool). when (b && isRead (ch .mode)) (take (n .written) r ++ spread (λ (x : ℕ). x) (steps 16 (decrement (ch .mode)) address) m (drop (n .written) r) 1) r) (sym made) ∙ sym er
 
-      totals-is : plus all (countsOf ch 1 (pace (s .command) + 1)) ≡ withAlone (counts (n .transfers) (l .used) (l .written) (n .states)) (k - (left - 1) - longs) (f .pace)
+      totals-is : plus all (countsOf ch 1 (pace (s .command) (s .waits) + 1)) ≡ withAlone (counts (n .transfers) (l .used) (l .written) (n .states)) (k - (left - 1) - longs) (f .pace)
       totals-is =
           let x = k - left - longs in
           let one : k - (left - 1) - longs ≡ x + 1 = omega (arith, g .fewer, g .long, more') in
           let times : (x + 1) * (f .pace + 1) ≡ x * (f .pace + 1) + (f .pace + 1) = next-mul x (f .pace + 1) in
           let made-one : n .transfers + x + 1 ≡ n .transfers + (k - (left - 1) - longs) = omega (arith, one) in
-          let cost : n .states + x * (f .pace + 1) + (pace (s .command) + 1) ≡ n .states + (k - (left - 1) - longs) * (f .pace + 1) =
+          let cost : n .states + x * (f .pace + 1) + (pace (s .command) (s .waits) + 1) ≡ n .states + (k - (left - 1) - longs) * (f .pace + 1) =
           ap (λ (p : ℕ). n .states + x * (f .pace + 1) + (p + 1)) pace-is ∙ add-assoc (n .states) (x * (f .pace + 1)) (f .pace + 1) ∙ ap (λ (y : ℕ). n .states + y) (sym times) ∙ ap (λ (y : ℕ). n .states + y * (f .pace + 1)) (sym one) in
           counts-same _ _ _ _ _ _ _ _ made-one
           (ap (λ (b : Bool). n .used + when (b && isWrite (ch .mode)) 1 0) (sym made) ∙ sym eu)
@@ -417,7 +417,7 @@ module _ (k : ℕ) (d : List ℕ) (size : ℕ) (o : Close) (f : Facts) (s : Cont
       pub looping-alone : (x : Channel) → x ≡ stepped ch → Looping k d size o f (withChannel s q x) (set services q (getD services q 0 + 1)) (counts (n .transfers) (l .used) (l .written) (n .states)) nexts longs q (left - 1) m' r'
       looping-alone x ex =
           rw ex
-          (turned k d size o f s services n nexts longs i left m r g more' q refl somebody' _ run-is (withChannel s q (stepped ch)) m' r' (counts (n .transfers) (l .used) (l .written) (n .states)) nexts longs refl memory-is room-is totals-is refl refl
+          (turned k d size o f s services n nexts longs i left m r g more' q refl somebody' _ run-is (withChannel s q (stepped ch)) m' r' (counts (n .transfers) (l .used) (l .written) (n .states)) nexts longs refl memory-is room-is totals-is refl refl refl
           (λ y. modes-kept (s .channels) q y (stepped ch) refl) (g .listed) (omega (arith, g .long)))
 
   -- A long service: what a leg of a device's service leaves, as the code computes it.
@@ -457,13 +457,13 @@ module _ (k : ℕ) (d : List ℕ) (size : ℕ) (o : Close) (f : Facts) (s : Cont
     module _ (some : 0 < l .transfers) (b : Bits) (eb : b ≡ bitsOf s) (u : Turn) (eu : u ≡ turnOf (s .edition) (f .pace) q there (l .transfers) b n) (m' r' : List ℕ)
         (em : m' ≡ stored there (drop (n .used) d) m (l .transfers)) (er : r' ≡ take (n .written) r ++ loaded there m (drop (n .written) r) (l .transfers)) where
       abbrev leg : Leg
-      leg = legOf (s .edition) q ch (bitsOf s) true (pace (s .command)) (l .transfers) 0
+      leg = legOf (s .edition) q ch (bitsOf s) true (pace (s .command) (s .waits)) (l .transfers) 0
 
-      turn-is : u ≡ turnOf (s .edition) (pace (s .command)) q ch (l .transfers) (bitsOf s) n
+      turn-is : u ≡ turnOf (s .edition) (pace (s .command) (s .waits)) q ch (l .transfers) (bitsOf s) n
       turn-is =
-          eu ∙ ap (λ (p : ℕ). turnOf (s .edition) p q there (l .transfers) b n) (sym pace-is) ∙ ap (λ (x : Channel). turnOf (s .edition) (pace (s .command)) q x (l .transfers) b n) et ∙ ap (λ (x : Bits). turnOf (s .edition) (pace (s .command)) q ch (l .transfers) x n) eb
+          eu ∙ ap (λ (p : ℕ). turnOf (s .edition) p q there (l .transfers) b n) (sym pace-is) ∙ ap (λ (x : Channel). turnOf (s .edition) (pace (s .command) (s .waits)) q x (l .transfers) b n) et ∙ ap (λ (x : Bits). turnOf (s .edition) (pace (s .command) (s .waits)) q ch (l .transfers) x n) eb
 
-      states-is : leg .states ≡ statesOf ch (pace (s .command)) true (l .transfers)
+      states-is : leg .states ≡ statesOf ch (pace (s .command) (s .waits)) true (l .transfers)
       unfolding legOf
       states-is = refl
 
@@ -473,19 +473,19 @@ module _ (k : ℕ) (d : List ℕ) (size : ℕ) (o : Close) (f : Facts) (s : Cont
       room-left : take (n .written) r ++ loaded ch m (drop (n .written) r) (l .transfers) ≡ r'
       room-left = ap (λ (x : Channel). take (n .written) r ++ loaded x m (drop (n .written) r) (l .transfers)) (sym et) ∙ sym er
 
-      totals-left : plus all (countsOf ch (l .transfers) (statesOf ch (pace (s .command)) true (l .transfers))) ≡ withAlone (u .counts) (k - (left - 1) - (longs + 1)) (f .pace)
+      totals-left : plus all (countsOf ch (l .transfers) (statesOf ch (pace (s .command) (s .waits)) true (l .transfers))) ≡ withAlone (u .counts) (k - (left - 1) - (longs + 1)) (f .pace)
       totals-left =
-          sym (alone-plus n (countsOf ch (l .transfers) (statesOf ch (pace (s .command)) true (l .transfers))) (k - left - longs) (f .pace))
+          sym (alone-plus n (countsOf ch (l .transfers) (statesOf ch (pace (s .command) (s .waits)) true (l .transfers))) (k - left - longs) (f .pace))
           ∙ ap (λ (x : ℕ). withAlone (plus n (countsOf ch (l .transfers) x)) (k - left - longs) (f .pace)) (sym states-is)
           ∙ ap (λ (x : Turn). withAlone (x .counts) (k - left - longs) (f .pace)) (sym turn-is)
           ∙ ap (λ (x : ℕ). withAlone (u .counts) x (f .pace)) (sym same-alone)
 
       -- the counts with it still have room
-      pub turn-fits : (u .counts .transfers + 4096 < 2 ^ 64) × (u .counts .states + 16384 < 2 ^ 64)
+      pub turn-fits : (u .counts .transfers + mostServices < 2 ^ 64) × (u .counts .states + mostStates < 2 ^ 64)
       turn-fits =
           let x = fits k d size o f s services n nexts longs i left m r g in
           let few = leg-few in
-          let most = states-most ch (pace (s .command)) true (l .transfers) few (rw pace-is (omega (arith, x .pace))) in
+          let most = states-most ch (pace (s .command) (s .waits)) true (l .transfers) few (rw pace-is (omega (arith, x .pace))) in
           rw turn-is (omega (arith, x .transfers), omega (arith, x .states, most, states-is))
 
       pub turn-memory : length m' ≡ 65536
@@ -493,7 +493,7 @@ module _ (k : ℕ) (d : List ℕ) (size : ℕ) (o : Close) (f : Facts) (s : Cont
 
       pub turn-room : length r' ≡ size
       turn-room =
-          ap length er ∙ tail-length (n .written) r _ (when-both (λ (x : List ℕ). length x ≡ length (drop (n .written) r)) (reads there) (length-spread (λ (x : ℕ). x) (addressAfter there) m (drop (n .written) r) (l .transfers)) refl) ∙ g .rolling .room
+          ap length er ∙ tail-length (n .written) r _ (when-both (λ (x : List ℕ). length x ≡ length (drop (n .written) r)) (reads there) (length-spread (λ (x : ℕ). x) (addressAfter there) m (drop (n .written) r) (l .transfers)) refl) ∙ g .rolling .tally .room
 
       there-is : withBits (withChannel s q (leg .channel)) (leg .bits) ≡ withBits (withChannel s q (u .channel)) (u .bits)
       there-is = ap (λ (x : Turn). withBits (withChannel s q (x .channel)) (x .bits)) (sym turn-is)
@@ -507,7 +507,7 @@ module _ (k : ℕ) (d : List ℕ) (size : ℕ) (o : Close) (f : Facts) (s : Cont
           → Looping k d size o f (withBits (withChannel s q (u .channel)) (u .bits)) (set services q (getD services q 0 + 1)) (u .counts) nexts' (longs + 1) q (left - 1) m' r'
       looping-leg h nexts' en =
           turned k d size o f s services n nexts longs i left m r g more' q refl somebody' _ (leg-ended s i q resting-now m d r services all who' below small device l span-told some (ended-is (l .why) h))
-          (withBits (withChannel s q (u .channel)) (u .bits)) m' r' (u .counts) nexts' (longs + 1) (ap (λ (x : Controller). resting x q) there-is) memory-left room-left totals-left refl refl
+          (withBits (withChannel s q (u .channel)) (u .bits)) m' r' (u .counts) nexts' (longs + 1) (ap (λ (x : Controller). resting x q) there-is) memory-left room-left totals-left refl refl refl
           (λ y. modes-kept (s .channels) q y (u .channel) leg-mode) en (omega (arith, g .long, g .fewer, more'))
 
       -- or did not, and the round closes
@@ -523,12 +523,15 @@ module _ (k : ℕ) (d : List ℕ) (size : ℕ) (o : Close) (f : Facts) (s : Cont
   -- A service of memory-to-memory, up to its end.
   module _ (is-copier : q ≡ f .copier) (source target : Channel) (es : source ≡ ch) (hs : source .address < 65536) (hsc : source .count < 65536) (et : target ≡ channel s 1) (ht : target .address < 65536) (hc : target .count < 65536)
       (b : Bits) (eb : b ≡ bitsOf s) (u : Copied) (eu : u ≡ copyLegOf (s .edition) source target b (f .hold) (target .count + 1) 0) (byte : ℕ) (ey : byte ≡ lastByte (routeOf (f .hold) source target) m (target .count + 1))
-      (m' : List ℕ) (em : m' ≡ carriedBy (routeOf (f .hold) source target) m (target .count + 1)) (n' : Counts) (en : n' ≡ plus n (counts (target .count + 1) 0 0 ((target .count + 1) * copyPace))) where
+      (m' : List ℕ) (em : m' ≡ carriedBy (routeOf (f .hold) source target) m (target .count + 1)) (n' : Counts) (en : n' ≡ plus n (counts (target .count + 1) 0 0 ((target .count + 1) * copyPace (f .waits)))) where
     copies : (memoryToMemory (granted (resting s i) q) ≡ true) × (q ≡ 0)
     copies = copies-0 s i q f (g .facts) (next-below k d size o f s services n nexts longs i left m r g test) is-copier
 
     hold-is : addressHold (s .command) ≡ f .hold
     hold-is = ap (λ (x : Facts). x .hold) (sym (g .facts))
+
+    waits-is : s .waits ≡ f .waits
+    waits-is = ap (λ (x : Facts). x .waits) (sym (g .facts))
 
     abbrev more-of : Channel → Channel → Bits → Bool → Copied
     more-of x y z h = copyLegOf (s .edition) x y z h (y .count + 1) 0
@@ -551,10 +554,11 @@ module _ (k : ℕ) (d : List ℕ) (size : ℕ) (o : Close) (f : Facts) (s : Cont
     alone-copied : k - (left - 1) - (longs + 1) ≡ k - left - longs
     alone-copied = omega (arith, g .fewer, g .long, more')
 
-    totals-copied : plus all (counts (channel s 1 .count + 1) 0 0 ((channel s 1 .count + 1) * copyPace)) ≡ withAlone n' (k - (left - 1) - (longs + 1)) (f .pace)
+    totals-copied : plus all (counts (channel s 1 .count + 1) 0 0 ((channel s 1 .count + 1) * copyPace (s .waits))) ≡ withAlone n' (k - (left - 1) - (longs + 1)) (f .pace)
     totals-copied =
-        ap (λ (x : Channel). plus all (counts (x .count + 1) 0 0 ((x .count + 1) * copyPace))) (sym et)
-        ∙ sym (alone-plus n (counts (target .count + 1) 0 0 ((target .count + 1) * copyPace)) (k - left - longs) (f .pace))
+        ap (λ (x : Channel). plus all (counts (x .count + 1) 0 0 ((x .count + 1) * copyPace (s .waits)))) (sym et)
+        ∙ ap (λ (x : ℕ). plus all (counts (target .count + 1) 0 0 ((target .count + 1) * copyPace x))) waits-is
+        ∙ sym (alone-plus n (counts (target .count + 1) 0 0 ((target .count + 1) * copyPace (f .waits))) (k - left - longs) (f .pace))
         ∙ ap (λ (x : Counts). withAlone x (k - left - longs) (f .pace)) (sym en) ∙ ap (λ (x : ℕ). withAlone n' x (f .pace)) (sym alone-copied)
 
     abbrev left-by : Copied → ℕ → ℕ → Controller
@@ -574,7 +578,7 @@ module _ (k : ℕ) (d : List ℕ) (size : ℕ) (o : Close) (f : Facts) (s : Cont
         turned k d size o f s services n nexts longs i left m r g more' q refl somebody' _
         (turn-copied s i q resting-now m d r services all who' (rw (sym es) hs) (rw (sym es) hsc) (copies .0) (copies .1) (rw (sym et) ht) (rw (sym et) hc)) (left-by u byte q) m' r n' nexts' (longs + 1)
         (ap (λ (x : Copied). resting (left-by x (lastByte (routeOf (addressHold (s .command)) ch (channel s 1)) m (channel s 1 .count + 1)) 0) q) copy-is ∙ ap (λ (y : ℕ). resting (left-by u y 0) q) byte-is ∙ ap (λ (at : ℕ). resting (left-by u byte at) q) (sym (copies .1)))
-        memory-copied (take-append-drop (n .written) r) totals-copied refl refl modes-copied el (omega (arith, g .long, g .fewer, more'))
+        memory-copied (take-append-drop (n .written) r) totals-copied refl refl refl modes-copied el (omega (arith, g .long, g .fewer, more'))
 
 -- what a round answers that was refused, or came to its close
 pub said-refused : (c : Controller) (m d r : List ℕ) (k x' : ℕ) (x : Rounded) (z : Counts) → z ≡ none → x ≡ rounded c (Refused x') (0 ∷ 0 ∷ 0 ∷ 0 ∷ []) z → refusal (roundGrounds c m k) ≡ x' → (x' ≡ 0 → ⊥) → roundGiven x m r ≡ roundedOf c m d r k

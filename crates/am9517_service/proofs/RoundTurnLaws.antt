@@ -234,10 +234,10 @@ module _ (s : Controller) (i j : ℕ) (rest : AtRest s) (m d r services : List �
       turn-stood z = next-run ∙ led .stood z ∙ ap (λ (x : Controller). stop (startOf x m space) (l .why)) (stands s i j rest (staysOpen (l .why)))
 
       abbrev leg : Leg
-      leg = legOf (s .edition) j ch (bitsOf s) true (pace (s .command)) (l .transfers) 0
+      leg = legOf (s .edition) j ch (bitsOf s) true (pace (s .command) (s .waits)) (l .transfers) 0
 
       pub turn-led : 0 < l .transfers
-          → runNext w d ≡ stop (world (afterLeg c j leg (staysOpen (l .why))) (stored ch bytes m (l .transfers)) (loaded ch m space (l .transfers)) (countsOf ch (l .transfers) (statesOf ch (pace (s .command)) true (l .transfers)))) (l .why)
+          → runNext w d ≡ stop (world (afterLeg c j leg (staysOpen (l .why))) (stored ch bytes m (l .transfers)) (loaded ch m space (l .transfers)) (countsOf ch (l .transfers) (statesOf ch (pace (s .command) (s .waits)) true (l .transfers)))) (l .why)
       unfolding granted needsS1
       turn-led h = next-run ∙ led .some h
 
@@ -253,17 +253,17 @@ module _ (s : Controller) (i j : ℕ) (rest : AtRest s) (m d r services : List �
 
       -- the course behind a leg that ended the service
       pub leg-ended : 0 < l .transfers → l .why ≡ Ended
-          → runNext w d ≡ stop (world (resting there j) (stored ch bytes m (l .transfers)) (loaded ch m space (l .transfers)) (countsOf ch (l .transfers) (statesOf ch (pace (s .command)) true (l .transfers)))) Ended
+          → runNext w d ≡ stop (world (resting there j) (stored ch bytes m (l .transfers)) (loaded ch m space (l .transfers)) (countsOf ch (l .transfers) (statesOf ch (pace (s .command) (s .waits)) true (l .transfers)))) Ended
       leg-ended h e =
           turn-led h
-          ∙ ap (λ (y : Reason). stop (world (afterLeg c j leg (staysOpen y)) (stored ch bytes m (l .transfers)) (loaded ch m space (l .transfers)) (countsOf ch (l .transfers) (statesOf ch (pace (s .command)) true (l .transfers)))) y) e
-          ∙ ap (λ (x : Controller). stop (world x (stored ch bytes m (l .transfers)) (loaded ch m space (l .transfers)) (countsOf ch (l .transfers) (statesOf ch (pace (s .command)) true (l .transfers)))) Ended) (leg-rests s i j rest leg)
+          ∙ ap (λ (y : Reason). stop (world (afterLeg c j leg (staysOpen y)) (stored ch bytes m (l .transfers)) (loaded ch m space (l .transfers)) (countsOf ch (l .transfers) (statesOf ch (pace (s .command) (s .waits)) true (l .transfers)))) y) e
+          ∙ ap (λ (x : Controller). stop (world x (stored ch bytes m (l .transfers)) (loaded ch m space (l .transfers)) (countsOf ch (l .transfers) (statesOf ch (pace (s .command) (s .waits)) true (l .transfers)))) Ended) (leg-rests s i j rest leg)
 
       -- and behind one that did not
       pub leg-halted : 0 < l .transfers → staysOpen (l .why) ≡ true
-          → runNext w d ≡ stop (world (settledOf (put (put there LatchFull 1) Latch (leg .latch)) j (rotating (s .command)) (staysOpen (l .why))) (stored ch bytes m (l .transfers)) (loaded ch m space (l .transfers)) (countsOf ch (l .transfers) (statesOf ch (pace (s .command)) true (l .transfers)))) (l .why)
+          → runNext w d ≡ stop (world (settledOf (put (put there LatchFull 1) Latch (leg .latch)) j (rotating (s .command)) (staysOpen (l .why))) (stored ch bytes m (l .transfers)) (loaded ch m space (l .transfers)) (countsOf ch (l .transfers) (statesOf ch (pace (s .command) (s .waits)) true (l .transfers)))) (l .why)
       leg-halted h e =
-          let f : Controller → Stop = λ x. stop (world x (stored ch bytes m (l .transfers)) (loaded ch m space (l .transfers)) (countsOf ch (l .transfers) (statesOf ch (pace (s .command)) true (l .transfers)))) (l .why) in
+          let f : Controller → Stop = λ x. stop (world x (stored ch bytes m (l .transfers)) (loaded ch m space (l .transfers)) (countsOf ch (l .transfers) (statesOf ch (pace (s .command) (s .waits)) true (l .transfers)))) (l .why) in
           turn-led h
           ∙ ap (λ (b : Bool). f (afterLeg c j leg b)) e
           ∙ ap f (leg-stays s i j rest leg)
@@ -287,24 +287,24 @@ module _ (s : Controller) (i j : ℕ) (rest : AtRest s) (m d r services : List �
       last-not : eqb 1 (ch .count + 1) ≡ false
       last-not = ne-eqb _ _ (λ (e : 1 ≡ ch .count + 1). more (omega arith))
 
-      alone-leg : legOf (s .edition) j ch (bitsOf s) true (pace (s .command)) 1 0 .channel ≡ stepped ch
+      alone-leg : legOf (s .edition) j ch (bitsOf s) true (pace (s .command) (s .waits)) 1 0 .channel ≡ stepped ch
       unfolding legOf when
       alone-leg = simp last-not (sym (stepped-first ch))
 
-      alone-bits : legOf (s .edition) j ch (bitsOf s) true (pace (s .command)) 1 0 .bits ≡ bitsOf s
+      alone-bits : legOf (s .edition) j ch (bitsOf s) true (pace (s .command) (s .waits)) 1 0 .bits ≡ bitsOf s
       unfolding legOf when
       alone-bits = simp last-not
 
-      alone-states : statesOf ch (pace (s .command)) true 1 ≡ pace (s .command) + 1
+      alone-states : statesOf ch (pace (s .command) (s .waits)) true 1 ≡ pace (s .command) (s .waits) + 1
       unfolding statesOf when
       alone-states = let z : entered (decrement (ch .mode)) (ch .address) (1 - 1) ≡ 0 = entered-none (decrement (ch .mode)) (ch .address) in omega (arith, z)
 
-      pub turn-alone : runNext w d ≡ stop (world (resting (withChannel s j (stepped ch)) j) (stored ch bytes m 1) (loaded ch m space 1) (countsOf ch 1 (pace (s .command) + 1))) Ended
+      pub turn-alone : runNext w d ≡ stop (world (resting (withChannel s j (stepped ch)) j) (stored ch bytes m 1) (loaded ch m space 1) (countsOf ch 1 (pace (s .command) (s .waits) + 1))) Ended
       turn-alone =
           let f : Channel → Bits → ℕ → Stop = λ x b k. stop (world (resting (withBits (withChannel s j x) b) j) (stored ch bytes m 1) (loaded ch m space 1) (countsOf ch 1 k)) Ended in
           leg-ended nc alone alone-is (omega arith) refl
-          ∙ ap (λ (x : Channel). f x (legOf (s .edition) j ch (bitsOf s) true (pace (s .command)) 1 0 .bits) (statesOf ch (pace (s .command)) true 1)) alone-leg
-          ∙ ap (λ (b : Bits). f (stepped ch) b (statesOf ch (pace (s .command)) true 1)) alone-bits
+          ∙ ap (λ (x : Channel). f x (legOf (s .edition) j ch (bitsOf s) true (pace (s .command) (s .waits)) 1 0 .bits) (statesOf ch (pace (s .command) (s .waits)) true 1)) alone-leg
+          ∙ ap (λ (b : Bits). f (stepped ch) b (statesOf ch (pace (s .command) (s .waits)) true 1)) alone-bits
           ∙ ap (f (stepped ch) (bitsOf s)) alone-states
 
     -- a service of memory-to-memory, up to its end
@@ -345,10 +345,10 @@ module _ (s : Controller) (i j : ℕ) (rest : AtRest s) (m d r services : List �
       copied : CopyLed c m bytes space 65536 0 ic target-below' target-small' (span all Ended)
       copied = rw (sym all-span) (copy-run c m bytes space 65536 0 ic target-below' target-small')
 
-      pub turn-copied : runNext w d ≡ stop (world (resting (withBits (withChannel (withChannel (put s Temporary byte) 0 (copy .source)) 1 (copy .target)) (copy .bits)) j) (carriedBy (routeOf hold ch target) m all) space (counts all 0 0 (all * copyPace))) Ended
+      pub turn-copied : runNext w d ≡ stop (world (resting (withBits (withChannel (withChannel (put s Temporary byte) 0 (copy .source)) 1 (copy .target)) (copy .bits)) j) (carriedBy (routeOf hold ch target) m all) space (counts all 0 0 (all * copyPace (s .waits)))) Ended
       unfolding granted
       turn-copied =
-          let f : Channel → Stop = λ x. stop (world (afterCopy c (copyLegOf (s .edition) x target (bitsOf s) hold all 0) (lastByte (routeOf hold x target) m all) false) (carriedBy (routeOf hold x target) m all) space (counts all 0 0 (all * copyPace))) Ended in
+          let f : Channel → Stop = λ x. stop (world (afterCopy c (copyLegOf (s .edition) x target (bitsOf s) hold all 0) (lastByte (routeOf hold x target) m all) false) (carriedBy (routeOf hold x target) m all) space (counts all 0 0 (all * copyPace (s .waits)))) Ended in
           next-run ∙ copied .some (omega arith)
           ∙ ap f source-there
-          ∙ ap (λ (x : Controller). stop (world x (carriedBy (routeOf hold ch target) m all) space (counts all 0 0 (all * copyPace))) Ended) (copy-rests s i j rest zeroth copy byte)
+          ∙ ap (λ (x : Controller). stop (world x (carriedBy (routeOf hold ch target) m all) space (counts all 0 0 (all * copyPace (s .waits)))) Ended) (copy-rests s i j rest zeroth copy byte)

@@ -12,13 +12,14 @@ use borrow.Author.Tests.{ne-eqb}
 use Rattle.words.specs.Choice.{when}
 use Rattle.words.specs.Steps.{step, steps, stride}
 use Rattle.am9517.specs.Fields.{blank, withChannel}
-use Rattle.am9517.specs.Modes.{decrement}
+use Rattle.am9517.specs.Modes.{decrement, compressed}
 use Rattle.am9517.specs.Serving.{active}
 use Rattle.am9517.specs.declared.Channel.{Channel}
 use Rattle.am9517.specs.declared.Controller.{Controller}
 use Rattle.am9517_service.specs.World.{World, world, startOf, memoryToMemory, servingChannel}
 use Rattle.am9517_service.specs.Stops.{dropped}
 use Rattle.am9517_service.specs.States.{pace, needsS1, latched, cost}
+use Rattle.am9517_service.specs.Bounds.{mostWaits, mostPace, mostStates}
 use Rattle.am9517_service.specs.Transfer.{withCurrent, stepped, writes, reads, moved}
 use Rattle.am9517_service.specs.Run.{transferred}
 use Rattle.words.specs.Spans.{spread}
@@ -116,13 +117,13 @@ module _ (c : Controller) (m d r : List ℕ) where
 
   -- the states of one transfer more
   abbrev states : ℕ → ℕ
-  states n = statesOf ch (pace (c .command)) (needsS1 c (ch .address)) n
+  states n = statesOf ch (pace (c .command) (c .waits)) (needsS1 c (ch .address)) n
 
   states-on : (j : ℕ) → states (j + 1) + cost (movedOn c (j + 1)) (addressAfter ch (j + 1)) ≡ states (j + 1 + 1)
   unfolding statesOf cost needsS1 addressAfter
   states-on j =
       let a = ch .address in
-      let p = pace (c .command) in
+      let p = pace (c .command) (c .waits) in
       let back : j + 1 - 1 ≡ j = omega arith in
       let back' : j + 1 + 1 - 1 ≡ j + 1 = omega arith in
       let more = entered-more down a j in
@@ -229,13 +230,13 @@ module _ (down : Bool) (a : ℕ) (src dst : List ℕ) (n : ℕ) (one : n ≡ 1) 
   unfolding spread
   one-loaded = rw one (ap (λ (x : ℕ). set dst 0 (getD src x 0)) (sym (steps-none 16 down a below)))
 
--- the states of a leg fit a machine word
-pub states-most : (ch : Channel) (p : ℕ) (first : Bool) (n : ℕ) → n ≤ 65536 → p ≤ 8 → statesOf ch p first n ≤ 65536 * 9
+-- no leg has more states than memory-to-memory's
+pub states-most : (ch : Channel) (p : ℕ) (first : Bool) (n : ℕ) → n ≤ 65536 → p ≤ mostPace → statesOf ch p first n ≤ mostStates
 unfolding statesOf
 states-most ch p first n h q =
-    let each : n * p ≤ n * 8 = mul-le-mul-left n q in
+    let each : n * p ≤ n * mostPace = mul-le-mul-left n q in
     omega (arith, each, when-le first 1, entered-most (decrement (ch .mode)) (ch .address) (n - 1) (omega arith))
 
-pub pace-most : (command : ℕ) → pace command ≤ 8
+pub pace-most : (command waits : ℕ) → waits ≤ mostWaits → pace command waits ≤ mostPace
 unfolding pace
-pace-most command = when-both (λ (x : ℕ). x ≤ 8) _ (omega arith) (omega arith)
+pace-most command waits h = when-both (λ (x : ℕ). x + waits ≤ mostPace) (compressed command) (omega arith) (omega arith)

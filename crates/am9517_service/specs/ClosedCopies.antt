@@ -65,11 +65,11 @@ beginningAgain ρ n =
 abbrev pub routeOf : Bool → Channel → Channel → Route
 routeOf hold source target = record { hold = hold; source = source; to = target .address; «to_down» = decrement (target .mode) }
 
--- what n transfers, at least one, leave of channels 0 and 1 and of the bits, where transfer eop meets EOP
+-- what n transfers, at least one, leave of channels 0 and 1 and of the bits, where transfer eop meets EOP; its states are counted apart
 unfoldable pub copyLegOf : ℕ → Channel → Channel → Bits → Bool → ℕ → ℕ → Copied
 copyLegOf edition source target b hold n eop =
     let over = eqb n (target .count + 1) || eqb n eop in
-    let l = legOf edition 1 target (record { tc = b .tc; request = when over (withBit (b .request) 0 false) (b .request); mask = b .mask }) false copyPace n eop in
+    let l = legOf edition 1 target (record { tc = b .tc; request = when over (withBit (b .request) 0 false) (b .request); mask = b .mask }) false 0 n eop in
     record { source = sourceAfter hold source n; target = l .channel; bits = l .bits }
 
 -- the byte that n transfers moved last
@@ -91,7 +91,7 @@ abbrev pub routeIn : Controller → Route
 routeIn c = routeOf (addressHold (c .command)) (channel c 0) (channel c 1)
 
 unfoldable pub copiedAll : Controller → List ℕ → List ℕ → ℕ → World
-copiedAll c m r n = world (copiedOn c (lastByte (routeIn c) m n) n) (carriedBy (routeIn c) m n) r (counts n 0 0 (n * copyPace))
+copiedAll c m r n = world (copiedOn c (lastByte (routeIn c) m n) n) (carriedBy (routeIn c) m n) r (counts n 0 0 (n * copyPace (c .waits)))
 
 unfoldable pub reachedCopying : Controller → List ℕ → List ℕ → ℕ → World
 reachedCopying c m r n = when (eqb n 0) (startOf c m r) (copiedAll c m r n)

@@ -1,5 +1,5 @@
 -- A leg of a service, in closed form: what so many transfers leave. What a run is, Run.antt says.
-use Rattle.am9517_service.specs.States.{copyPace, pace, needsS1, latched}
+use Rattle.am9517_service.specs.States.{pace, needsS1, latched}
 use Prim.Native.Nat.{ℕ, _+_, _-_, _*_, _/_, _%_}
 use mathlib.Core.Bool.{Bool, true, _||_}
 use mathlib.Core.List.{List}
@@ -72,14 +72,7 @@ movedOn c n = latched (withChannel c (c .serving) (currentAfter (servingChannel 
 unfoldable pub travelled : Controller → List ℕ → List ℕ → List ℕ → ℕ → World
 travelled c m d r n =
     let ch = servingChannel c in
-    world (movedOn c n) (stored ch d m n) (loaded ch m r n) (countsOf ch n (statesOf ch (pace (c .command)) (needsS1 c (ch .address)) n))
+    world (movedOn c n) (stored ch d m n) (loaded ch m r n) (countsOf ch n (statesOf ch (pace (c .command) (c .waits)) (needsS1 c (ch .address)) n))
 
 unfoldable pub reached : Controller → List ℕ → List ℕ → List ℕ → ℕ → World
 reached c m d r n = when (eqb n 0) (startOf c m r) (travelled c m d r n)
-
--- the most that one service can count: count FFFFh gives this many transfers, and none costs more than memory-to-memory's
-abbrev pub mostTransfers : ℕ
-mostTransfers = 65536
-
-abbrev pub mostStates : ℕ
-mostStates = mostTransfers * copyPace

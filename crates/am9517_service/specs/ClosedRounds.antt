@@ -22,10 +22,10 @@ use Rattle.am9517_service.specs.Counts.{counts, plus}
 use Rattle.am9517_service.specs.States.{pace}
 use Rattle.am9517_service.specs.ClosedLegs.{legOf, countsOf}
 
--- what a round needs of the command, the pins and the modes, which stay
+-- what a round needs of the command, the wait states, the pins and the modes, which stay
 abbrev pub factsOf : Controller → Facts
 factsOf c =
-    record { rotating = rotating (c .command); copier = when (memoryToMemoryBit (c .command)) 0 4; hold = addressHold (c .command); pace = pace (c .command); lines = linesOf c; blocks = blocksOf c }
+    record { rotating = rotating (c .command); copier = when (memoryToMemoryBit (c .command)) 0 4; hold = addressHold (c .command); pace = pace (c .command) (c .waits); lines = linesOf c; blocks = blocksOf c; waits = c .waits }
 
 -- who is next behind each channel served last, with these mask and request bits
 unfoldable pub nextsOf : Facts → ℕ → ℕ → List ℕ

@@ -40,4 +40,4 @@ copied w =
     world (withChannel sent 1 (stepped (channel c 1)))
     (set (w .memory) (channel c 1 .address) byte)
     (w .room)
-    (plus (w .counts) (counts 1 0 0 copyPace))
+    (plus (w .counts) (counts 1 0 0 (copyPace (c .waits))))

@@ -10,6 +10,8 @@ pub mod Run
 pub mod Answers
 pub mod Round
 pub mod RoundAnswers
+-- the most that is counted
+pub mod Bounds
 -- help for laws and private contracts: no rule stands there
 pub mod ClosedSpans
 pub mod ClosedLegs

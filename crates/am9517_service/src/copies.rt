@@ -257,7 +257,8 @@ pub(crate) fn copy_leg(
     let over = (n == target.count as u64 + 1) | (n == eop_at);
     let mut asked = b;
     asked.request = when(over, with_bit(b.request, 0, false), b.request);
-    let l = leg_of(edition, 1, target, asked, false, 8, n, eop_at);
+    // Its states are counted apart, by copied_counts.
+    let l = leg_of(edition, 1, target, asked, false, 0, n, eop_at);
     let there = l.channel;
     let bits = l.bits;
     Copied {

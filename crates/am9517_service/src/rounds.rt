@@ -43,6 +43,7 @@ ghost use Rattle.am9517.specs.Modes.{decrement, isWrite, isRead};
 ghost use Rattle.am9517.specs.Refusals.{refusal};
 ghost use Rattle.am9517_service.specs.Round.{isEnded};
 ghost use Rattle.am9517_service.specs.RoundAnswers.{roundGiven, roundRefusalNumber, roundGrounds, roundedOf};
+ghost use Rattle.am9517_service.specs.Bounds.{mostPace, mostStates, mostServices};
 ghost use Rattle.am9517_service.specs.Transfer.{stepped};
 ghost use Rattle.am9517_service.specs.ClosedLegs.{stored, loaded};
 ghost use Rattle.am9517_service.specs.ClosedSpans.{staysOpen};
@@ -58,7 +59,7 @@ fn round_refusal(c: Controller, memory: &[u8], k: u32) -> u8
     when(!c.valid(), 1, no)
 }
 
-// What a round needs of the command, the pins and the modes, which stay.
+// What a round needs of the command, the wait states, the pins and the modes, which stay.
 pub struct Facts {
     pub rotating: bool,
     pub copier: usize,
@@ -66,13 +67,14 @@ pub struct Facts {
     pub pace: u64,
     pub lines: u8,
     pub blocks: u8,
+    pub waits: u8,
 }
 
 // The copier is the channel whose services are memory-to-memory: 0, or none.
 fn facts_of(c: Controller) -> Facts
-    ensures { λ r. ⌜ (r ≡ factsOf c) × (r .pace ≤ 3) ⌝ }
+    ensures { λ r. ⌜ (r ≡ factsOf c) × (r .pace ≤ mostPace) ⌝ }
 {
-    let pace = pace_of(c.command);
+    let pace = pace_of(c.command, c.waits);
     Facts {
         rotating: rotating(c.command),
         copier: when_size(memory_to_memory_bit(c.command), 0, 4),
@@ -80,6 +82,7 @@ fn facts_of(c: Controller) -> Facts
         pace,
         lines: c.lines(),
         blocks: c.blocks(),
+        waits: c.waits,
     }
 }
 
@@ -217,8 +220,8 @@ fn turn_of(
     device: &[u8],
     room: &mut [u8],
 ) -> Turn
-    requires { ⌜ (0 < n) × (pace ≤ 8) × (was .used ≤ length (now device)) × (was .written ≤ length (now room)) × Stocked ch (now memory) (drop (was .used) (now device)) (drop (was .written) (now room)) n ⌝ }
-    requires { ⌜ (was .transfers + n < 2 ^ 64) × (was .states + 65536 * 9 < 2 ^ 64) ⌝ }
+    requires { ⌜ (0 < n) × (pace ≤ mostPace) × (was .used ≤ length (now device)) × (was .written ≤ length (now room)) × Stocked ch (now memory) (drop (was .used) (now device)) (drop (was .written) (now room)) n ⌝ }
+    requires { ⌜ (was .transfers + n < 2 ^ 64) × (was .states + mostStates < 2 ^ 64) ⌝ }
     ensures { λ r. ⌜ r ≡ turnOf edition pace i ch n b was ⌝ }
     ensures memory { λ _. ⌜ now (memory .exit) ≡ stored ch (drop (was .used) (now (device .entry))) (now (memory .entry)) n ⌝ }
     ensures room { λ _. ⌜ now (room .exit) ≡ take (was .written) (now (room .entry)) ++ loaded ch (now (memory .entry)) (drop (was .written) (now (room .entry))) n ⌝ }
@@ -272,7 +275,7 @@ fn is_ended(why: Reason) -> bool
 
 // The totals with the lone services, which were not counted one by one: each a transfer, and its states.
 fn totals_of(n: Counts, alone: u64, pace: u64) -> Counts
-    requires { ⌜ (n .transfers + 4096 < 2 ^ 64) × (pace ≤ 3) × (alone ≤ 4096) × (n .states + 16384 < 2 ^ 64) ⌝ }
+    requires { ⌜ (n .transfers + mostServices < 2 ^ 64) × (pace ≤ mostPace) × (alone ≤ mostServices) × (n .states + mostStates < 2 ^ 64) ⌝ }
     ensures { λ r. ⌜ r ≡ withAlone n alone pace ⌝ }
 {
     Counts {
@@ -322,7 +325,7 @@ fn closing(
     n: Counts,
     alone: u32,
 ) -> Rounded
-    requires { ⌜ (i < 4) × (f .pace ≤ 3) × (alone ≤ 4096) × (n .transfers + 4096 < 2 ^ 64) × (n .states + 16384 < 2 ^ 64) ⌝ }
+    requires { ⌜ (i < 4) × (f .pace ≤ mostPace) × (alone ≤ mostServices) × (n .transfers + mostServices < 2 ^ 64) × (n .states + mostStates < 2 ^ 64) ⌝ }
     ensures { λ r. ⌜ r ≡ record { controller = settledOf s i (f .rotating) (staysOpen why); answer = answerOf why done; services = services; totals = withAlone n alone (f .pace) } ⌝ }
 {
     let totals = totals_of(n, alone as u64, f.pace);
@@ -383,7 +386,7 @@ pub fn round(c: Controller, memory: &mut [u8], device: &[u8], room: &mut [u8], k
                 s.tc = u.bits.tc;
                 s.request = u.bits.request;
                 s.mask = u.bits.mask;
-                n = copied_counts(n, m);
+                n = copied_counts(n, m, f.waits);
                 nexts = nexts_after(f, nexts, b, s.mask, s.request);
             } else {
                 let ch = bounded_channel(s.channels[i]);

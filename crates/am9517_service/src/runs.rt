@@ -37,6 +37,7 @@ ghost use Rattle.am9517_service.specs.declared.RunAnswer.the-variants.{S
 ghost use Rattle.am9517_service.specs.Counts.{counts, none, plus};
 ghost use Rattle.am9517_service.specs.World.{memoryToMemory, startOf, stop};
 ghost use Rattle.am9517_service.specs.States.{pace, copyPace, needsS1};
+ghost use Rattle.am9517_service.specs.Bounds.{mostPace, mostCopyPace, mostTransfers, mostStates};
 ghost use Rattle.am9517_service.specs.Transfer.{writes, reads};
 ghost use Rattle.am9517_service.specs.Ends.{bitsOf};
 ghost use Rattle.am9517_service.specs.Run.{runOf};
@@ -70,16 +71,24 @@ pub(crate) fn counted(was: Counts, ch: Channel, n: u64, states: u64) -> Counts
     }
 }
 
-// The counts with n transfers of memory-to-memory.
-pub(crate) fn copied_counts(was: Counts, n: u64) -> Counts
-    requires { ⌜ (was .transfers + n < 2 ^ 64) × (was .states + n * copyPace < 2 ^ 64) ⌝ }
-    ensures { λ r. ⌜ r ≡ plus was (counts n 0 0 (n * copyPace)) ⌝ }
+// The states of a transfer of memory-to-memory.
+fn copy_pace_of(waits: u8) -> u64
+    ensures { λ r. ⌜ (r ≡ copyPace waits) × (r ≤ mostCopyPace) ⌝ }
 {
+    8 + 2 * (waits as u64)
+}
+
+// The counts with n transfers of memory-to-memory, with so many wait states.
+pub(crate) fn copied_counts(was: Counts, n: u64, waits: u8) -> Counts
+    requires { ⌜ (n ≤ mostTransfers) × (was .transfers + n < 2 ^ 64) × (was .states + mostStates < 2 ^ 64) ⌝ }
+    ensures { λ r. ⌜ r ≡ plus was (counts n 0 0 (n * copyPace waits)) ⌝ }
+{
+    let pace = copy_pace_of(waits);
     Counts {
         transfers: was.transfers + n,
         used: was.used,
         written: was.written,
-        states: was.states + n * 8,
+        states: was.states + n * pace,
     }
 }
 
@@ -115,10 +124,10 @@ pub(crate) fn stays_open(why: Reason) -> bool
 }
 
 // The states of a transfer without S1.
-pub(crate) fn pace_of(command: u8) -> u64
-    ensures { λ r. ⌜ (r ≡ pace command) × (r ≤ 3) ⌝ }
+pub(crate) fn pace_of(command: u8, waits: u8) -> u64
+    ensures { λ r. ⌜ (r ≡ pace command waits) × (r ≤ mostPace) ⌝ }
 {
-    when_long(compressed(command), 2, 3)
+    when_long(compressed(command), 2, 3) + waits as u64
 }
 
 pub(crate) fn bits_of(c: Controller) -> Bits
@@ -173,7 +182,7 @@ fn after_copy(c: Controller, i: usize, l: Copied, byte: u8, stays: bool) -> Cont
 // The leg of the open service of channel i.
 fn open_leg(c: Controller, i: usize, ch: Channel, n: u64, eop_at: u64) -> Leg
     requires { ⌜ (0 < n) × (n ≤ 65536) ⌝ }
-    ensures { λ r. ⌜ r ≡ legOf (c .edition) i ch (bitsOf c) (needsS1 c (ch .address)) (pace (c .command)) n «eop_at» ⌝ }
+    ensures { λ r. ⌜ r ≡ legOf (c .edition) i ch (bitsOf c) (needsS1 c (ch .address)) (pace (c .command) (c .waits)) n «eop_at» ⌝ }
 {
     let first = needs_s1(c.latch_full, c.latch, ch.address);
     leg_of(
@@ -182,7 +191,7 @@ fn open_leg(c: Controller, i: usize, ch: Channel, n: u64, eop_at: u64) -> Leg
         ch,
         bits_of(c),
         first,
-        pace_of(c.command),
+        pace_of(c.command, c.waits),
         n,
         eop_at,
     )
@@ -244,7 +253,7 @@ fn run_copy(
         ran(
             after_copy(c, i, l, byte, stays),
             why,
-            copied_counts(no_counts(), n),
+            copied_counts(no_counts(), n, c.waits),
         )
     }
 }

@@ -1,14 +1,15 @@
 -- A state and its body.
 use Prim.Native.Nat.{ℕ, _+_, _≤_}
 use mathlib.Core.Path.{_≡_, refl, sym, ap, _∙_}
-use mathlib.Core.Bool.{true, false}
+use mathlib.Core.Bool.{Bool, true, false}
 use mathlib.Core.List.{List, [], _∷_, _++_, map}
 use native.Mathlib.Omega.{arith}
 use native.Mathlib.Nat.{add-zero}
+use lib.Dec.{eqb}
 use lib.ListN.{length, getD, take, drop, length-drop}
 use lib.Seq.{take-add, getD-drop}
-use borrow.Author.Tests.{eqb-true, not-false}
-use Rattle.am9517.specs.Fields.{blank, channel, make, but, field, Edition}
+use borrow.Author.Tests.{eqb-true}
+use Rattle.am9517.specs.Fields.{blank, channel, make, but, field, Edition, Waits}
 use Rattle.am9517.specs.declared.Channel.{Channel}
 use Rattle.am9517.specs.declared.Controller.{Controller}
 use Rattle.am9517_sheet.specs.declared.forms.Form.{Form}
@@ -17,6 +18,7 @@ use Rattle.am9517_sheet.specs.Bytes.{total, placed, OfBytes}
 use Rattle.am9517_sheet.specs.ClosedSums.{sixteenOf}
 use Rattle.am9517_sheet.specs.Form.{front, behind, channelsAt, bodySize}
 use Rattle.am9517_sheet.specs.Body.{channelBytes, channelsBytes, bodyOf, exceeds, stateOf}
+use Rattle.words.proofs.ChoiceLaws.{never}
 use Rattle.am9517_sheet.proofs.BytesLaws.{stored-next, word-whole, word-low, word-high, first-cells}
 
 -- a list of four is its four elements
@@ -48,22 +50,35 @@ front-stored : (form : Form) (s : Controller) (out : List ℕ) (start : ℕ) →
 unfolding bodyOf
 front-stored One s out start = ap (λ (k : ℕ). placed out k (channelsBytes s ++ map (field s) behind)) (add-zero start)
 
+-- a state of edition 0 without wait states has all of it a place in form 1, any other has not
+pub zero-within : (s : Controller) → s .edition ≡ 0 → s .waits ≡ 0 → exceeds One s ≡ false
+unfolding exceeds
+zero-within s e w = rw (e, w)
+
+within-zero : (s : Controller) → exceeds One s ≡ false → (s .edition ≡ 0) × (s .waits ≡ 0)
+unfolding exceeds
+within-zero s h = go (eqb (s .waits) 0) (eqb (s .edition) 0) refl refl
+  where
+    go : (w e : Bool) → eqb (s .waits) 0 ≡ w → eqb (s .edition) 0 ≡ e → (s .edition ≡ 0) × (s .waits ≡ 0)
+    go true true ew ee = (eqb-true _ _ ee, eqb-true _ _ ew)
+    go true false ew ee = never (rw (ew, ee) at h)
+    go false e ew ee = never (rw ew at h)
+
+pub other-exceeds : (s : Controller) → ((s .edition ≡ 0) × (s .waits ≡ 0) → ⊥) → exceeds One s ≡ true
+other-exceeds s h = go (exceeds One s) refl
+  where
+    go : (t : Bool) → exceeds One s ≡ t → exceeds One s ≡ true
+    go true e = e
+    go false e = absurd (h (within-zero s e))
+
 -- the state that a state's body tells, whatever stands behind it
 pub state-of-body : (form : Form) (s : Controller) (rest : List ℕ) → length (s .channels) ≡ 4 → exceeds form s ≡ false → stateOf form (bodyOf form s ++ rest) ≡ s
 unfolding stateOf bodyOf exceeds
 state-of-body One s rest h e =
-    let zero : s .edition ≡ 0 = eqb-true _ _ (not-false _ e) in
-    let told : ℕ → List Channel → Controller = λ edition cs. make cs (but (field s) Edition edition) in
-    simp word-whole (ap (told 0) (four (s .channels) h) ∙ ap (λ (edition : ℕ). told edition (s .channels)) (sym zero))
-
--- a state of edition 0 has all of it a place in form 1, one of edition 1 has not
-pub zero-within : (s : Controller) → s .edition ≡ 0 → exceeds One s ≡ false
-unfolding exceeds
-zero-within s e = rw e
-
-pub one-exceeds : (s : Controller) → s .edition ≡ 1 → exceeds One s ≡ true
-unfolding exceeds
-one-exceeds s e = rw e
+    let none = within-zero s e in
+    let told : ℕ → ℕ → List Channel → Controller = λ edition waits cs. make cs (but (but (field s) Edition edition) Waits waits) in
+    simp word-whole
+    (ap (told 0 0) (four (s .channels) h) ∙ ap (λ (edition : ℕ). told edition 0 (s .channels)) (sym (none .0)) ∙ ap (λ (waits : ℕ). told (s .edition) waits (s .channels)) (sym (none .1)))
 
 -- the state that a body tells has nothing that has no place there
 pub told-within : (form : Form) (xs : List ℕ) → exceeds form (stateOf form xs) ≡ false

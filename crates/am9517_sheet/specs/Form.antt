@@ -2,7 +2,7 @@
 use Prim.Native.Nat.{ℕ, _+_, _*_}
 use mathlib.Core.List.{List, [], _∷_}
 use lib.ListN.{length}
-use Rattle.am9517.specs.Fields.{Field, Command, Tc, Request, Mask, Temporary, FlipFlop, Pins, Lowest, InService, Serving, LatchFull, Latch, Edition}
+use Rattle.am9517.specs.Fields.{Field, Command, Tc, Request, Mask, Temporary, FlipFlop, Pins, Lowest, InService, Serving, LatchFull, Latch, Edition, Waits}
 use Rattle.am9517_sheet.specs.declared.forms.Form.{Form}
 use Rattle.am9517_sheet.specs.declared.forms.Form.the-variants.{One}
 
@@ -14,9 +14,9 @@ number One = 1
 abbrev pub front : Form → List Field
 front One = []
 
--- the fields that have no place in it: document 02, A2, "Form 1 has no place for the edition"
+-- the fields that have no place in it: document 02, A2, "Form 1 has no place for the edition"; A3, "A state with waits can't go into form 1"
 abbrev pub missing : Form → List Field
-missing One = Edition ∷ []
+missing One = Edition ∷ Waits ∷ []
 
 -- those behind the channels, the same in every form: "36 command; 37 TC; 38 request; 39 mask; 40 temporary; 41 flip-flop; 42 pins;
 -- 43 lowest; 44 in service; 45 serving; 46 latch full; 47 latch"

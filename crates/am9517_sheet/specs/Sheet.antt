@@ -43,7 +43,7 @@ abbrev pub stored : SheetAnswer → List ℕ → Stored
 stored a bs = record { answer = a; bytes = bs }
 
 -- "sheet writing 1, 9", into a slice of n bytes: 9 "slice under 56 bytes for a sheet". Document 02, A2: "writing such a state is refusal 15,
--- after 1 and 9", one with an edition other than 0
+-- after 1 and 9", one with an edition other than 0; A3: "A state with waits can't go into form 1: refusal 15."
 abbrev pub sheetWriteGrounds : Form → Controller → ℕ → List (Ground ℕ)
 sheetWriteGrounds form s n = 1 if not (valid s) ∷ 9 if ltb n (sheetSize form) ∷ 15 if exceeds form s ∷ []
 

@@ -12,7 +12,7 @@ ghost use mathlib.Core.Path.{_≡_};
 ghost use Prim.Native.Nat.{_+_, _≤_};
 ghost use lib.ListN.{length};
 ghost use mathlib.Core.List.{map};
-ghost use Rattle.am9517.specs.Fields.{field, Edition};
+ghost use Rattle.am9517.specs.Fields.{field, Edition, Waits};
 ghost use Rattle.am9517_sheet.specs.declared.forms.Form.the-variants.{One};
 ghost use Rattle.am9517_sheet.specs.Bytes.{placed};
 ghost use Rattle.am9517_sheet.specs.Form.{front, behind, channelPlace, bodySize};
@@ -95,7 +95,7 @@ pub(crate) fn exceeds(form: Form, c: Controller) -> bool
     ensures { λ r. ⌜ r ≡ exceeds form c ⌝ }
 {
     match form {
-        Form::One => c.edition != 0,
+        Form::One => (c.waits != 0) | (c.edition != 0),
     }
 }
 
@@ -121,12 +121,22 @@ fn edition_in(form: Form, b: &[u8]) -> u8
     }
 }
 
+// Its wait states likewise.
+fn waits_in(form: Form, b: &[u8]) -> u8
+    ensures { λ r. ⌜ r ≡ fieldIn (front form) 0 (now (b .entry)) Waits 0 ⌝ }
+{
+    match form {
+        Form::One => 0,
+    }
+}
+
 // The state that the body at the front of these bytes tells.
 pub(crate) fn state_in(form: Form, b: &[u8]) -> Controller
     requires { ⌜ bodySize form ≤ length (now b) ⌝ }
     ensures { λ r. ⌜ r ≡ stateOf form (now (b .entry)) ⌝ }
 {
     let edition = edition_in(form, b);
+    let waits = waits_in(form, b);
     let at = channels_at(form);
     let core = &b[at..];
     let first = channel_at(core, 0);
@@ -148,6 +158,7 @@ pub(crate) fn state_in(form: Form, b: &[u8]) -> Controller
         latch_full: core[46],
         latch: core[47],
         edition,
+        waits,
     }
 }
 

@@ -21,7 +21,7 @@ use Rattle.c_am9517.specs.Numbers.{told, toldOf, runToldOf, roundToldOf}
 
 -- major * 10000 + minor * 100 + patch
 abbrev pub version : ℕ
-version = 30000
+version = 40000
 
 -- a look is refused by 1, "the state breaks a range of the sheet section", and shows nothing then
 abbrev pub lookGrounds : Controller → List (Ground ℕ)

@@ -12,7 +12,7 @@ use am9517::Answer;
 use am9517::Controller;
 use am9517::Outcome;
 ghost use mathlib.Core.Path.{_≡_};
-ghost use Rattle.am9517.specs.Answers.{refusalNumber, writeOf, readOf, pinsOf, resetOf, grantOf};
+ghost use Rattle.am9517.specs.Answers.{refusalNumber, writeOf, readOf, pinsOf, resetOf, waitsOf, grantOf};
 ghost use Rattle.am9517.specs.Serving.{entitled, setOf, status};
 ghost use Rattle.am9517_service.specs.Answers.{ranOf};
 ghost use Rattle.am9517_service.specs.RoundAnswers.{roundedOf};
@@ -115,6 +115,12 @@ pub(crate) fn reset(c: Controller) -> Done
     ensures { λ r. ⌜ left (r .controller) (told (r .refusal) 0) ≡ callOf (resetOf c) ⌝ }
 {
     done_of(c.reset())
+}
+
+pub(crate) fn waits(c: Controller, states: u8) -> Done
+    ensures { λ r. ⌜ left (r .controller) (told (r .refusal) 0) ≡ callOf (waitsOf c states) ⌝ }
+{
+    done_of(c.waits(states))
 }
 
 pub(crate) fn grant(c: Controller) -> Answered

@@ -4,7 +4,7 @@ use am9517::Controller;
 use am9517::Edition;
 ghost use mathlib.Core.Path.{_≡_};
 ghost use Rattle.am9517.specs.State.{fresh};
-ghost use Rattle.am9517.specs.Answers.{writeOf, readOf, pinsOf, resetOf, grantOf};
+ghost use Rattle.am9517.specs.Answers.{writeOf, readOf, pinsOf, resetOf, waitsOf, grantOf};
 ghost use Rattle.am9517.specs.Serving.{entitled, setOf, status};
 ghost use Rattle.am9517_service.specs.Answers.{ranOf};
 ghost use Rattle.am9517_service.specs.RoundAnswers.{roundedOf};
@@ -52,7 +52,7 @@ pub struct RoundTold {
 pub extern "C" fn am9517_version() -> u32
     ensures { λ r. ⌜ r ≡ version ⌝ }
 {
-    30000
+    40000
 }
 
 // A fresh chip of this edition; one of no edition is refused by 1 in every call but a load.
@@ -108,6 +108,16 @@ pub extern "C" fn am9517_reset(chip: &mut Controller) -> u32
     ensures { λ r. ⌜ left (now (chip .exit)) (told r 0) ≡ callOf (resetOf (now (chip .entry))) ⌝ }
 {
     let done = calls::reset(*chip);
+    *chip = done.controller;
+    done.refusal
+}
+
+// The memory cards hold each transfer for so many states more.
+#[no_mangle]
+pub extern "C" fn am9517_waits(chip: &mut Controller, states: u8) -> u32
+    ensures { λ r. ⌜ left (now (chip .exit)) (told r 0) ≡ callOf (waitsOf (now (chip .entry)) states) ⌝ }
+{
+    let done = calls::waits(*chip, states);
     *chip = done.controller;
     done.refusal
 }

@@ -5,9 +5,9 @@ use mathlib.Core.List.{List, [], _∷_, _++_}
 use lib.Dec.{eqb, leb}
 use lib.ListN.{length, getD, take, drop, replicate}
 use Rattle.words.specs.Choice.{when, _and_}
-use Rattle.am9517.specs.Fields.{put, Edition}
+use Rattle.am9517.specs.Fields.{put, Edition, Waits}
 use Rattle.am9517.specs.State.{fresh}
-use Rattle.am9517.specs.Answers.{writeOf, readOf, pinsOf}
+use Rattle.am9517.specs.Answers.{writeOf, readOf, pinsOf, waitsOf}
 use Rattle.am9517.specs.declared.Controller.{Controller}
 use Rattle.am9517_sheet.specs.declared.SheetAnswer.{SheetAnswer}
 use Rattle.am9517_sheet.specs.declared.SheetAnswer.the-variants.{Done, Refused}
@@ -26,7 +26,7 @@ stateText c = codes "state " ++ hexText (bodyOf One c)
 
 -- "100 digits: edition, waits (00 before A3), the 48 body bytes; no range check"
 abbrev pub fullText : Controller → List ℕ
-fullText c = codes "full " ++ (hexText (c .edition ∷ 0 ∷ []) ++ hexText (bodyOf One c))
+fullText c = codes "full " ++ (hexText (c .edition ∷ c .waits ∷ []) ++ hexText (bodyOf One c))
 
 -- "a fresh state of edition E, 0 (also when E is missing) Am9517A or 1 Intel; E over 1 is `error`"
 abbrev pub freshReply : Controller → List ℕ → Reply
@@ -44,25 +44,27 @@ readReply c reg = numbered (numberOf wordMost reg) (λ (r : ℕ). outcomeReply f
 abbrev pub pinsReply : Controller → List ℕ → Reply
 pinsReply c levels = numbered (numberOf wordMost levels) (λ (p : ℕ). outcomeReply false (pinsOf c p)) (errorReply c)
 
+-- "N over 255 is `error`"
+abbrev pub waitsReply : Controller → List ℕ → Reply
+waitsReply c states = numbered (numberOf 255 states) (λ (n : ℕ). outcomeReply false (waitsOf c n)) (errorReply c)
+
 -- the word is a byte string of n bytes
 unfoldable pub saysBytes : List ℕ → ℕ → Bool
 saysBytes digits n = isBytes digits and eqb (length digits) (2 * n)
 
--- the state of this edition and of the body that these digits say
-abbrev pub stateTold : ℕ → List ℕ → Controller
-stateTold edition digits = put (stateOf One (bytesIn digits)) Edition edition
+-- the state of this edition, of these wait states, and of the body that these digits say
+abbrev pub stateTold : ℕ → ℕ → List ℕ → Controller
+stateTold edition waits digits = put (put (stateOf One (bytesIn digits)) Edition edition) Waits waits
 
--- "the state is now these 48 bytes, taken with no range check"; the edition is left
+-- "`state HEX` sets the 48 and leaves edition and waits"
 abbrev pub stateReply : Controller → List ℕ → Reply
-stateReply c digits = when (saysBytes digits (bodySize One)) (reply (stateTold (c .edition) digits) okText) (errorReply c)
+stateReply c digits = when (saysBytes digits (bodySize One)) (reply (stateTold (c .edition) (c .waits) digits) okText) (errorReply c)
 
--- "the state is now these 50 bytes, taken with no range check": edition, waits, and the body's. A state has no waits before A3: their byte is 00,
--- or nothing is changed
+-- "the state is now these 50 bytes, taken with no range check": edition, waits, and the body's
 abbrev pub fullReply : Controller → List ℕ → Reply
 fullReply c digits =
     let front = bytesIn (take 4 digits) in
-    when (saysBytes digits (2 + bodySize One) and eqb (getD front 1 0) 0)
-    (reply (stateTold (getD front 0 0) (drop 4 digits)) okText) (errorReply c)
+    when (saysBytes digits (2 + bodySize One)) (reply (stateTold (getD front 0 0) (getD front 1 0) (drop 4 digits)) okText) (errorReply c)
 
 -- a text where a sheet was written or read, or the refusal
 unfoldable pub sheetSaid : SheetAnswer → List ℕ → List ℕ

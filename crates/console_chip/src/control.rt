@@ -29,7 +29,7 @@ ghost use Rattle.console_text.specs.Text.{page, put};
 ghost use Rattle.console_text.specs.Hex.{bytesIn};
 ghost use Rattle.console_chip.specs.Answers.{okText, bytesAnswer, reply, outcomeReply, said, saying};
 ghost use mathlib.Core.Bool.{true, false};
-ghost use Rattle.console_chip.specs.Control.{stateText, fullText, freshReply, saysBytes, stateTold, fullReply, sheetSaid, sheetText, writeReply, readReply, pinsReply, stateReply, within, sheetReply, loadReply};
+ghost use Rattle.console_chip.specs.Control.{stateText, fullText, freshReply, saysBytes, stateTold, fullReply, sheetSaid, sheetText, writeReply, readReply, pinsReply, stateReply, waitsReply, within, sheetReply, loadReply};
 
 // The largest register number, limit or count that a command takes.
 const WORD: u32 = 0xffff_ffff;
@@ -42,12 +42,12 @@ pub fn state(c: Controller, out: &mut [u8], at: usize) -> usize
     hex(out, next, &body)
 }
 
-// The state in full: edition, waits, which it has none of, and body.
+// The state in full: edition, waits and body.
 pub fn full(c: Controller, out: &mut [u8], at: usize) -> usize
     ensures { λ r. ⌜ page (now (out .exit)) r ≡ put (page (now (out .entry)) at) (fullText c) ⌝ }
 {
     let body = body_of(c);
-    let front = [c.edition, 0];
+    let front = [c.edition, c.waits];
     let next = text(out, at, b"full ");
     let next = hex(out, next, &front);
     hex(out, next, &body)
@@ -60,15 +60,16 @@ fn says_bytes(digits: &[u8], n: usize) -> bool
     is_bytes(digits) & (digits.len() == 2 * n)
 }
 
-// The state of this edition whose body these digits say.
-fn state_told(edition: u8, digits: &[u8]) -> Controller
+// The state of this edition and of these wait states whose body these digits say.
+fn state_told(edition: u8, waits: u8, digits: &[u8]) -> Controller
     requires { ⌜ length (now digits) ≡ 2 * 48 ⌝ }
-    ensures { λ r. ⌜ r ≡ stateTold edition (now (digits .entry)) ⌝ }
+    ensures { λ r. ⌜ r ≡ stateTold edition waits (now (digits .entry)) ⌝ }
 {
     let mut body = [0u8; BODY];
     store(&mut body, 0, digits);
     let mut next = state_of(body);
     next.edition = edition;
+    next.waits = waits;
     next
 }
 
@@ -78,7 +79,7 @@ pub fn set_state(c: Controller, digits: &[u8], out: &mut [u8], at: usize) -> Spo
     if !says_bytes(digits, BODY) {
         return fault(out, at, c);
     }
-    let next = state_told(c.edition, digits);
+    let next = state_told(c.edition, c.waits, digits);
     agree(out, at, next)
 }
 
@@ -99,10 +100,7 @@ pub fn set_full(c: Controller, digits: &[u8], out: &mut [u8], at: usize) -> Spok
         return fault(out, at, c);
     }
     let front = front_told(digits);
-    if front[1] != 0 {
-        return fault(out, at, c);
-    }
-    let next = state_told(front[0], &digits[4..]);
+    let next = state_told(front[0], front[1], &digits[4..]);
     agree(out, at, next)
 }
 
@@ -184,6 +182,19 @@ pub fn reset(c: Controller, out: &mut [u8], at: usize) -> Spoken
 {
     let done = c.reset();
     tell(out, at, done, false)
+}
+
+pub fn waits(c: Controller, states: &[u8], out: &mut [u8], at: usize) -> Spoken
+    ensures { λ r. ⌜ said r (now (out .exit)) ≡ saying (page (now (out .entry)) at) (waitsReply c (now (states .entry))) ⌝ }
+{
+    let said = number_of(states, 255);
+    match said {
+        Number::Value(n) => {
+            let done = c.waits(n as u8);
+            tell(out, at, done, false)
+        }
+        Number::Bad => fault(out, at, c),
+    }
 }
 
 pub fn grant(c: Controller, out: &mut [u8], at: usize) -> Spoken

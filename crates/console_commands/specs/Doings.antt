@@ -15,13 +15,13 @@ use Rattle.console_text.specs.declared.line.Words.{Words}
 use Rattle.console_text.specs.declared.forms.Command.{Command}
 use Rattle.console_text.specs.declared.forms.Command.the-variants.{Nothing, Chip, Arrays, Services, People, Unknown}
 use Rattle.console_text.specs.declared.forms.ChipCommand.{ChipCommand}
-use Rattle.console_text.specs.declared.forms.ChipCommand.the-variants.{State, SetState, Full, SetFull, Fresh, FreshOf, Write, Read, Pins, Reset, Grant, Sheet, Load}
+use Rattle.console_text.specs.declared.forms.ChipCommand.the-variants.{State, SetState, Full, SetFull, Fresh, FreshOf, Write, Read, Pins, Reset, Waits, Grant, Sheet, Load}
 use Rattle.console_text.specs.declared.forms.ArrayCommand.{ArrayCommand}
 use Rattle.console_text.specs.declared.forms.ArrayCommand.the-variants.{Memory, Poke, Peek, Feed, Fill, Room, Out, Dump, Queue, Empty}
 use Rattle.console_text.specs.declared.forms.ServiceCommand.{ServiceCommand}
 use Rattle.console_text.specs.declared.forms.ServiceCommand.the-variants.{Run, Round}
 use Rattle.console_chip.specs.Answers.{okText, errorText, bytesAnswer, Reply, reply, outcomeReply}
-use Rattle.console_chip.specs.Control.{stateText, stateReply, fullText, fullReply, freshReply, writeReply, readReply, pinsReply, sheetReply, loadReply}
+use Rattle.console_chip.specs.Control.{stateText, stateReply, fullText, fullReply, freshReply, writeReply, readReply, pinsReply, waitsReply, sheetReply, loadReply}
 use Rattle.console_arrays.specs.Arrays.{lentOf, lentText, peekText, Changed, changed, pokeOf, feedOf, fillOf, roomOf, positionOf}
 use Rattle.console_arrays.specs.Services.{Service, runReply, roundReply}
 use Rattle.console_dump.specs.Dump.{dumpOf}
@@ -39,6 +39,7 @@ chipReply Write c one two = writeReply c one two
 chipReply Read c one two = readReply c one
 chipReply Pins c one two = pinsReply c one
 chipReply Reset c one two = outcomeReply false (resetOf c)
+chipReply Waits c one two = waitsReply c one
 chipReply Grant c one two = outcomeReply true (grantOf c)
 chipReply Sheet c one two = sheetReply c one
 chipReply Load c one two = loadReply c one

@@ -15,6 +15,7 @@ use console_chip::control::set_full;
 use console_chip::control::set_state;
 use console_chip::control::sheet;
 use console_chip::control::state;
+use console_chip::control::waits;
 use console_chip::control::write;
 use console_text::forms::ChipCommand;
 ghost use Prim.Native.Nat.{_≤_, _/_};
@@ -60,6 +61,7 @@ fn chip_said(
         ChipCommand::Read => read(c, one, out, at),
         ChipCommand::Pins => pins(c, one, out, at),
         ChipCommand::Reset => reset(c, out, at),
+        ChipCommand::Waits => waits(c, one, out, at),
         ChipCommand::Grant => grant(c, out, at),
         ChipCommand::Sheet => sheet(c, one, spare, out, at),
         ChipCommand::Load => load(c, one, spare, out, at),

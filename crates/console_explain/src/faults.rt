@@ -96,11 +96,14 @@ fn limit(out: &mut [u8], at: usize, held: Held, name: &[u8], line: &[u8]) -> usi
         return text(
             out,
             at,
-            b"a state in full has 50 bytes, which are 100 digits, and no waits: the second is 00\n",
+            b"a state in full has 50 bytes, which are 100 digits\n",
         );
     }
     if same(name, b"fresh") {
         return text(out, at, b"E is 0, an Am9517A, or 1, an Intel 8237A\n");
+    }
+    if same(name, b"waits") {
+        return text(out, at, b"N is 255 at most\n");
     }
     if same(name, b"help") {
         let next = named(out, at, line, 1);

@@ -78,17 +78,43 @@ fn broken(out: &mut [u8], at: usize, edition: u8) -> usize {
     text(out, next, b": 0 is Am9517A, 1 is Intel 8237A\n")
 }
 
+// What of the state has no place in a sheet: its edition, its waits.
+fn of_edition(out: &mut [u8], at: usize, edition: u8) -> usize {
+    if edition == 0 {
+        return at;
+    }
+    text(
+        out,
+        at,
+        b"    the state is an Intel 8237A's: full tells all of it\n",
+    )
+}
+
+fn of_waits(out: &mut [u8], at: usize, waits: u8) -> usize {
+    if waits == 0 {
+        return at;
+    }
+    let next = text(out, at, b"    each transfer waits ");
+    let next = decimal(out, next, waits as u64);
+    text(
+        out,
+        next,
+        b" states: full tells them, waits 0 takes them away\n",
+    )
+}
+
+fn unplaced(out: &mut [u8], at: usize, c: Controller) -> usize {
+    let next = of_edition(out, at, c.edition);
+    of_waits(out, next, c.waits)
+}
+
 // What of the state it comes from, where its words don't tell.
 fn cause(out: &mut [u8], at: usize, c: Controller, lent: usize, number: &[u8]) -> usize {
     if same(number, b"1") {
         return broken(out, at, c.edition);
     }
     if same(number, b"15") {
-        return text(
-            out,
-            at,
-            b"    the state is an Intel 8237A's: full tells all of it\n",
-        );
+        return unplaced(out, at, c);
     }
     if same(number, b"6") {
         return nobody(out, at, c);

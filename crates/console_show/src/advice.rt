@@ -6,9 +6,9 @@ fn rows_of_controller(out: &mut [u8], at: usize) -> usize {
     text(
         out,
         at,
-        b"state               the state's 48 bytes, without its edition
+        b"state               the state's 48 bytes, without edition and waits
 state HEX           take 48 bytes as the state, with no range check
-full                the state in full: edition, 00 for waits, the 48 bytes
+full                the state in full: edition, waits, the 48 bytes
 full HEX            take such 50 bytes as the state, with no range check
 fresh               a fresh Am9517A
 fresh E             a fresh state of edition E: 0 Am9517A, 1 Intel 8237A
@@ -16,6 +16,7 @@ write REG BYTE      write a register, 0 to 15
 read REG            read a register
 pins P              set the DREQ pins, 0 to 15: bit 0 is channel 0's
 reset               reset
+waits N             hold each transfer for N states more, 0 to 255
 grant               grant the first entitled channel a service
 run LIMIT EOP       run it: at most LIMIT transfers, transfer EOP meets EOP, 0 none
 round K             begin up to K services, grant then run
@@ -100,6 +101,7 @@ write 0xb 0x85      # the mode of channel 1: block, write, up
 read 8              # status
 pins 2              # channel 1's line is high, the others are low
 reset
+waits 3             # a memory card that is slow by three states
 grant
 run 65536 0         # to the service's end, no EOP
 round 600           # until nobody asks any more
@@ -175,7 +177,7 @@ pub fn help_refusals(out: &mut [u8], at: usize) -> usize {
         at,
         b" 1  the state breaks a range of the sheet section
  2  register number over 15, pins over 15, or more than 4,096 services asked for
- 3  register access, grant or round during a service
+ 3  register access, waits, grant or round during a service
  4  read of 9, A, B, C, E, F, or write of E in an Am9517A
  5  mode byte with bits 3-2 = 11 and bits 7-6 not 11
  6  grant with no entitled channel
@@ -187,6 +189,6 @@ pub fn help_refusals(out: &mut [u8], at: usize) -> usize {
 12  sheet fault: distance
 13  sheet fault: sum
 14  sheet fault: range
-15  form 1 has no place for the edition",
+15  form 1 has no place for edition and waits",
     )
 }

@@ -75,6 +75,18 @@ fn edition_row(out: &mut [u8], at: usize, edition: u8) -> usize {
     byte(out, next, b'\n')
 }
 
+fn waits_row(out: &mut [u8], at: usize, waits: u8) -> usize {
+    if waits == 0 {
+        return text(out, at, b"waits    none\n");
+    }
+    let states = waits as u64;
+    let next = text(out, at, b"waits    each transfer takes ");
+    let next = decimal(out, next, states);
+    let next = text(out, next, b" states more, of memory-to-memory ");
+    let next = decimal(out, next, 2 * states);
+    byte(out, next, b'\n')
+}
+
 fn command_rows(out: &mut [u8], at: usize, command: u8) -> usize {
     let next = text(out, at, b"command  ");
     let next = command_name(out, next, command);
@@ -152,6 +164,7 @@ channel base now   base now   line   mask request TC  entitled mode
     );
     let next = channel_rows(out, next, c);
     let next = edition_row(out, next, c.edition);
+    let next = waits_row(out, next, c.waits);
     let next = command_rows(out, next, c.command);
     let next = service_rows(out, next, c);
     range_row(out, next, c)

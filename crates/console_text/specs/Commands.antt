@@ -9,7 +9,7 @@ use Rattle.words.specs.Choice.{when, _and_}
 use Rattle.console_text.specs.Text.{codes, same}
 use Rattle.console_text.specs.declared.forms.Command.{Command}
 use Rattle.console_text.specs.declared.forms.Command.the-variants.{Nothing, Chip, Arrays, Services, People, Unknown}
-use Rattle.console_text.specs.declared.forms.ChipCommand.the-variants.{State, SetState, Full, SetFull, Fresh, FreshOf, Write, Read, Pins, Reset, Grant, Sheet, Load}
+use Rattle.console_text.specs.declared.forms.ChipCommand.the-variants.{State, SetState, Full, SetFull, Fresh, FreshOf, Write, Read, Pins, Reset, Waits, Grant, Sheet, Load}
 use Rattle.console_text.specs.declared.forms.ArrayCommand.the-variants.{Memory, Poke, Peek, Feed, Fill, Room, Out, Dump, Queue, Empty}
 use Rattle.console_text.specs.declared.forms.ServiceCommand.the-variants.{Run, Round}
 use Rattle.console_text.specs.declared.forms.PeopleCommand.the-variants.{Show, Help, HelpOn}
@@ -45,6 +45,7 @@ controllerRows =
     ∷ row "read" 1 (Chip Read)
     ∷ row "pins" 1 (Chip Pins)
     ∷ row "reset" 0 (Chip Reset)
+    ∷ row "waits" 1 (Chip Waits)
     ∷ row "grant" 0 (Chip Grant)
     ∷ []
 

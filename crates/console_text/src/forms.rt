@@ -27,6 +27,7 @@ pub enum ChipCommand {
     Read,
     Pins,
     Reset,
+    Waits,
     Grant,
     Sheet,
     Load,
@@ -128,6 +129,7 @@ fn controller_row(name: &[u8], n: usize, other: Command) -> Command
     ensures { λ r. ⌜ r ≡ pick controllerRows (now (name .entry)) n other ⌝ }
 {
     let no = chip(name, n, b"grant", 0, ChipCommand::Grant, other);
+    let no = chip(name, n, b"waits", 1, ChipCommand::Waits, no);
     let no = chip(name, n, b"reset", 0, ChipCommand::Reset, no);
     let no = chip(name, n, b"pins", 1, ChipCommand::Pins, no);
     let no = chip(name, n, b"read", 1, ChipCommand::Read, no);

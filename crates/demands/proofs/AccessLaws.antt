@@ -1,4 +1,4 @@
--- What register accesses, pins and reset leave is in its ranges.
+-- What register accesses, pins, reset and wait states leave is in its ranges.
 use Prim.Native.Nat.{ℕ, zero, suc, _-_, _/_, _%_, _≤_, _<_}
 use mathlib.Core.Path.{_≡_, refl, sym, ap, _∙_}
 use mathlib.Core.Bool.{true, false, not, _&&_}
@@ -11,7 +11,7 @@ use Rattle.words.specs.Choice.{when}
 use Rattle.words.specs.Grounds.{first}
 use Rattle.words.specs.Bits.{bit}
 use Rattle.am9517.specs.State.{cleared}
-use Rattle.am9517.specs.Fields.{blank, channel, put, Pins}
+use Rattle.am9517.specs.Fields.{blank, channel, put, Pins, Waits}
 use Rattle.am9517.specs.Modes.{modeRefused}
 use Rattle.am9517.specs.Ranges.{modeValid}
 use Rattle.am9517.specs.Registers.{high, portWritten, modeWritten, afterWrite, afterRead}
@@ -137,3 +137,6 @@ module _ (s : Controller) (r : Ranges s) where
   pins-ranges p free =
       let h : p ≤ 15 = ltb-false _ _ (passed _ _ _ (omega arith) (passed _ _ _ (omega arith) free .next) .test) in
       same-service _ (r .mode) (f .tc) (f .request) (f .mask) h (f .flipFlop) (f .lowest) refl refl refl refl refl
+
+  pub waits-ranges : (n : ℕ) → Ranges (put s Waits n)
+  waits-ranges n = same-service _ (r .mode) (f .tc) (f .request) (f .mask) (f .pins) (f .flipFlop) (f .lowest) refl refl refl refl refl

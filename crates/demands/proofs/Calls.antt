@@ -24,9 +24,9 @@ use Rattle.am9517_sheet.specs.Sheet.{sheetRefusalNumber, Stored}
 use Rattle.c_am9517.specs.Numbers.{editionByte, valueOf}
 use Rattle.c_am9517.specs.Host.{lookGrounds, lookOf, loadOf, runCallOf, roundCallOf}
 use Rattle.demands.specs.Lists.{All, none, also}
-use Rattle.demands.specs.Operations.{Op, Write, Read, Pins, Reset, Grant, Run, Round, SheetWriting, SheetReading, Scene, scene, before, after, said}
+use Rattle.demands.specs.Operations.{Op, Write, Read, Pins, Reset, Waits, Grant, Run, Round, SheetWriting, SheetReading, Scene, scene, before, after, said}
 use Rattle.demands.specs.Refusals.{First, here, grounds}
-use Rattle.demands.specs.Calls.{Call, CCheck, CReset, CGrant, CEntitled, CStatus, CWrite, CRead, CPins, CRun, CRound, CSave, CLoad, looked, leftBy, ranBy, roundBy, does, lentTo, callGrounds, CallRefuses, Demand1OfCalls, ChipsStayGood}
+use Rattle.demands.specs.Calls.{Call, CCheck, CReset, CGrant, CEntitled, CStatus, CWrite, CRead, CPins, CWaits, CRun, CRound, CSave, CLoad, looked, leftBy, ranBy, roundBy, does, lentTo, callGrounds, CallRefuses, Demand1OfCalls, ChipsStayGood}
 use Rattle.words.proofs.ChoiceLaws.{when-both, when-each, when-miss}
 use Rattle.am9517.proofs.RefusalLaws.{number-told}
 use Rattle.am9517_service.proofs.AnswerLaws.{run-refused}
@@ -35,7 +35,7 @@ use Rattle.am9517_sheet.proofs.SheetLaws.{number-said, write-done, write-free}
 use Rattle.am9517_sheet.proofs.BodyLaws.{zero-within}
 use Rattle.am9517_sheet.proofs.TripLaws.{written-read}
 use Rattle.demands.proofs.Refusals.{refusal-exactly, Zeros, demand-1, round-refused}
-use Rattle.demands.proofs.Sheets.{intel-refused}
+use Rattle.demands.proofs.Sheets.{other-refused}
 use Rattle.demands.proofs.Ranges.{kept, read, fresh-valid, not-by-1}
 
 -- a refused operation has no value
@@ -83,6 +83,7 @@ demand-1-of-calls s CStatus = look-refuses s _
 demand-1-of-calls s (CWrite r x) = by-operation s (Write r x) _ (λ h. also (no-value _ _ _ _ h) none) (number-told _ _ _ _ refl)
 demand-1-of-calls s (CRead r) = by-operation s (Read r) _ (λ h. also (no-value _ _ _ _ h) none) (number-told _ _ _ _ refl)
 demand-1-of-calls s (CPins p) = by-operation s (Pins p) _ (λ h. also (no-value _ _ _ _ h) none) (number-told _ _ _ _ refl)
+demand-1-of-calls s (CWaits n) = by-operation s (Waits n) _ (λ h. also (no-value _ _ _ _ h) none) (number-told _ _ _ _ refl)
 demand-1-of-calls s CReset = by-operation s Reset _ (λ h. also (no-value _ _ _ _ h) none) (number-told _ _ _ _ refl)
 demand-1-of-calls s CGrant = by-operation s Grant _ (λ h. also (no-value _ _ _ _ h) none) (number-told _ _ _ _ refl)
 demand-1-of-calls s (CRun m d r limit eop) = run-refuses s m d r limit eop
@@ -108,6 +109,7 @@ call-not-1 s CStatus v = look-not-1 s v
 call-not-1 s (CWrite r x) v = not-by-1 s (Write r x) v
 call-not-1 s (CRead r) v = not-by-1 s (Read r) v
 call-not-1 s (CPins p) v = not-by-1 s (Pins p) v
+call-not-1 s (CWaits n) v = not-by-1 s (Waits n) v
 call-not-1 s CReset v = not-by-1 s Reset v
 call-not-1 s CGrant v = not-by-1 s Grant v
 call-not-1 s (CRun m d r limit eop) v = not-by-1 s (Run m d r limit eop) v
@@ -122,6 +124,7 @@ stays-good s CStatus v = v
 stays-good s (CWrite r x) v = kept s (Write r x) v
 stays-good s (CRead r) v = kept s (Read r) v
 stays-good s (CPins p) v = kept s (Pins p) v
+stays-good s (CWaits n) v = kept s (Waits n) v
 stays-good s CReset v = kept s Reset v
 stays-good s CGrant v = kept s Grant v
 stays-good s (CRun m d r limit eop) v = kept s (Run m d r limit eop) v
@@ -143,6 +146,7 @@ out-of-ranges s CStatus v h = by-1 s CStatus (λ e. here (ap not e) refl) v
 out-of-ranges s (CWrite r x) v h = by-1 s (CWrite r x) (λ e. here (ap not e) refl) v
 out-of-ranges s (CRead r) v h = by-1 s (CRead r) (λ e. here (ap not e) refl) v
 out-of-ranges s (CPins p) v h = by-1 s (CPins p) (λ e. here (ap not e) refl) v
+out-of-ranges s (CWaits n) v h = by-1 s (CWaits n) (λ e. here (ap not e) refl) v
 out-of-ranges s CReset v h = by-1 s CReset (λ e. here (ap not e) refl) v
 out-of-ranges s CGrant v h = by-1 s CGrant (λ e. here (ap not e) refl) v
 out-of-ranges s (CRun m d r limit eop) v h = by-1 s (CRun m d r limit eop) (λ e. here (ap not e) refl) v
@@ -165,6 +169,7 @@ accepted-good s CStatus h = accepted-by s CStatus (λ e. here (ap not e) refl) h
 accepted-good s (CWrite r x) h = accepted-by s (CWrite r x) (λ e. here (ap not e) refl) h
 accepted-good s (CRead r) h = accepted-by s (CRead r) (λ e. here (ap not e) refl) h
 accepted-good s (CPins p) h = accepted-by s (CPins p) (λ e. here (ap not e) refl) h
+accepted-good s (CWaits n) h = accepted-by s (CWaits n) (λ e. here (ap not e) refl) h
 accepted-good s CReset h = accepted-by s CReset (λ e. here (ap not e) refl) h
 accepted-good s CGrant h = accepted-by s CGrant (λ e. here (ap not e) refl) h
 accepted-good s (CRun m d r limit eop) h = accepted-by s (CRun m d r limit eop) (λ e. here (ap not e) refl) h
@@ -182,6 +187,7 @@ lent-chip s CStatus = refl
 lent-chip s (CWrite r x) = refl
 lent-chip s (CRead r) = refl
 lent-chip s (CPins p) = refl
+lent-chip s (CWaits n) = refl
 lent-chip s CReset = refl
 lent-chip s CGrant = refl
 lent-chip s (CRun m d r limit eop) = refl
@@ -212,6 +218,7 @@ call-small s CStatus f g = refusal-small _ (lookGrounds s) refl (also (at-most 1
 call-small s (CWrite r x) f g = refusal-small _ (callGrounds s (CWrite r x)) (number-told _ _ _ _ refl) (also (at-most 1 (omega arith)) (also (at-most 2 (omega arith)) (also (at-most 3 (omega arith)) (also (at-most 4 (omega arith)) (also (at-most 5 (omega arith)) none)))))
 call-small s (CRead r) f g = refusal-small _ (callGrounds s (CRead r)) (number-told _ _ _ _ refl) (also (at-most 1 (omega arith)) (also (at-most 2 (omega arith)) (also (at-most 3 (omega arith)) (also (at-most 4 (omega arith)) none))))
 call-small s (CPins p) f g = refusal-small _ (callGrounds s (CPins p)) (number-told _ _ _ _ refl) (also (at-most 1 (omega arith)) (also (at-most 2 (omega arith)) none))
+call-small s (CWaits n) f g = refusal-small _ (callGrounds s (CWaits n)) (number-told _ _ _ _ refl) (also (at-most 1 (omega arith)) (also (at-most 3 (omega arith)) none))
 call-small s CReset f g = refusal-small _ (callGrounds s CReset) (number-told _ _ _ _ refl) (also (at-most 1 (omega arith)) none)
 call-small s CGrant f g = refusal-small _ (callGrounds s CGrant) (number-told _ _ _ _ refl) (also (at-most 1 (omega arith)) (also (at-most 3 (omega arith)) (also (at-most 6 (omega arith)) none)))
 call-small s (CRun m d r limit eop) f g = refusal-small _ (callGrounds s (CRun m d r limit eop)) (ran-told s m d r limit eop) (also (at-most 1 (omega arith)) (also (at-most 7 (omega arith)) (also (at-most 8 (omega arith)) none)))
@@ -251,7 +258,7 @@ chips-stay-good =
       small = call-small;
       byOne = out-of-ranges;
       loadNeverBy1 = load-never-1;
-      saved = λ s bytes v e room. number-said _ ∙ write-free One s (length bytes) v room (zero-within s e);
-      unsaved = λ s bytes v e room. ap (λ (w : Stored). sheetRefusalNumber (w .answer)) (intel-refused s bytes v e room);
+      saved = λ s bytes v e w room. number-said _ ∙ write-free One s (length bytes) v room (zero-within s e w);
+      unsaved = λ s bytes v e room. ap (λ (w : Stored). sheetRefusalNumber (w .answer)) (other-refused s bytes v e room);
       loaded = saved-and-loaded;
     }

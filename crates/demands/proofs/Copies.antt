@@ -141,14 +141,17 @@ module _ (c : Controller) (m d r : List ℕ) (limit eop : ℕ) (k : Copies c m) 
   s = copySpan (channel c 1 .count) limit eop
 
   abbrev given : Span → Given → Type 0
-  given x g = (g .ran .answer ≡ Stopped (x .why)) × (g .ran .counts ≡ counts (x .transfers) 0 0 (x .transfers * copyPace))
+  given x g = (g .ran .answer ≡ Stopped (x .why)) × (g .ran .counts ≡ counts (x .transfers) 0 0 (x .transfers * copyPace (c .waits)))
+
+  none-spent : 0 ≡ 0 * copyPace (c .waits)
+  none-spent = omega arith
 
   stops-by : (n : ℕ) → s .transfers ≡ n → given s (stopped (runOf limit eop d (startOf c m r)))
   unfolding stopped
   stops-by zero e =
       let led = copy-run c m d r limit eop (k .copy) below small in (
         ap (λ (x : Stop). Stopped (x .reason)) (led .stood e),
-        ap (λ (x : Stop). x .world .counts) (led .stood e) ∙ ap (λ (n : ℕ). counts n 0 0 (n * copyPace)) (sym e),
+        ap (λ (x : Stop). x .world .counts) (led .stood e) ∙ ap (counts 0 0 0) none-spent ∙ ap (λ (n : ℕ). counts n 0 0 (n * copyPace (c .waits))) (sym e),
       )
   stops-by (suc n) e =
       let led = copy-run c m d r limit eop (k .copy) below small in
@@ -166,7 +169,7 @@ ends-alike c m d r limit eop k below small other k' =
     let one = stops-so c m d r limit eop k below small in
     let two = stops-so (withChannel c 0 other) m d r limit eop k' (rw there below) (rw there small) in (
       two .0 ∙ ap (λ (x : Span). Stopped (x .why)) span ∙ sym (one .0),
-      two .1 ∙ ap (λ (x : Span). counts (x .transfers) 0 0 (x .transfers * copyPace)) span ∙ sym (one .1),
+      two .1 ∙ ap (λ (x : Span). counts (x .transfers) 0 0 (x .transfers * copyPace (c .waits))) span ∙ sym (one .1),
     )
 
 zero-left : (c : Controller) (m d r : List ℕ) (limit eop : ℕ) → Copies c m → ChannelZero c (stopped (runOf limit eop d (startOf c m r)) .ran)

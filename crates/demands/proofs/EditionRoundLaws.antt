@@ -17,8 +17,9 @@ use Rattle.am9517_service.specs.Run.{runOf}
 use Rattle.am9517_service.specs.Round.{Course, course, runNext, withRun, afterNext, isEnded, Close, close, roundOf}
 use Rattle.am9517_service.specs.declared.RoundAnswer.the-variants as round
 use Rattle.demands.specs.Operations.{next}
-use Rattle.words.proofs.ChoiceLaws.{when-both, when-over}
-use Rattle.demands.proofs.EditionRunLaws.{inWorld, inStop, run-in, run-edition}
+use Rattle.words.proofs.ChoiceLaws.{when-over}
+use Rattle.demands.proofs.LastLaws.{next-lasts}
+use Rattle.demands.proofs.EditionRunLaws.{inWorld, inStop, run-in}
 
 -- A round: its course in this edition.
 abbrev pub inCourse : ℕ → Course → Course
@@ -60,27 +61,15 @@ module _ (d : List ℕ) where
   after-in : (w : Course) → afterNext (inCourse 1 w) d ≡ inCourse 1 (afterNext (inCourse 0 w) d)
   after-in w = rw (picked-in 1 (w .controller), picked-in 0 (w .controller), next-in w) (with-run-in w (picked (w .controller)) (runNext (inCourse 0 w) d))
 
-  next-edition : (w : Course) → afterNext w d .controller .edition ≡ w .controller .edition
-  unfolding runNext withRun granted
-  next-edition w = run-edition 65536 0 _ (startOf (granted (w .controller) (picked (w .controller))) (w .memory) (drop (w .totals .written) (w .room)))
-
-  pub round-edition : (left : ℕ) (w : Course) → roundOf left d w .course .controller .edition ≡ w .controller .edition
-  unfolding roundOf first
-  round-edition zero w = refl
-  round-edition (suc left) w =
-      let Kept : Close → Type 0 = λ k. k .course .controller .edition ≡ w .controller .edition in
-      let on = next-edition w in
-      when-both Kept (eqb (picked (w .controller)) 4) refl (when-both Kept (not (isEnded (runNext w d .reason))) on (round-edition left (afterNext w d) ∙ on))
-
   -- one service of a round, and the rest of it
-  unfoldable turn : Course → Course → ℕ → Stop → Close → Close
+  unfoldable pub turn : Course → Course → ℕ → Stop → Close → Close
   turn x v next s rest = first (close x round.Quiet if eqb next 4 ∷ []) (first (close v (round.Stopped (s .reason)) if not (isEnded (s .reason)) ∷ []) rest)
 
-  round-over : (w : Course) → roundOf 0 d w ≡ close w round.Done
+  pub round-over : (w : Course) → roundOf 0 d w ≡ close w round.Done
   unfolding roundOf
   round-over w = refl
 
-  round-turns : (left : ℕ) (w : Course) → roundOf (suc left) d w ≡ turn w (afterNext w d) (picked (w .controller)) (runNext w d) (roundOf left d (afterNext w d))
+  pub round-turns : (left : ℕ) (w : Course) → roundOf (suc left) d w ≡ turn w (afterNext w d) (picked (w .controller)) (runNext w d) (roundOf left d (afterNext w d))
   unfolding roundOf turn
   round-turns left w = refl
 
@@ -96,7 +85,7 @@ module _ (d : List ℕ) where
       let none = inCourse 0 w in
       let c = w .controller in
       let v = afterNext none d in
-      let here : inCourse 0 v ≡ v = ap (λ (e : ℕ). inCourse e v) (sym (next-edition none)) in
+      let here : inCourse 0 v ≡ v = ap (λ (e : ℕ). inCourse e v) (sym (next-lasts d none .0)) in
       let rest : roundOf left d (inCourse 1 v) ≡ inClose (roundOf left d v) = round-in left v ∙ ap (λ (x : Course). inClose (roundOf left d x)) here in
       round-turns left one
       ∙ ap (λ (x : Course). turn one x (picked (one .controller)) (runNext one d) (roundOf left d x)) (after-in w)

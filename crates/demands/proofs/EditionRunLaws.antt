@@ -25,7 +25,6 @@ use Rattle.am9517_service.specs.Ends.{counting, reachesTc, finished, afterTcOrE
 use Rattle.am9517_service.specs.Run.{transferred, runOf}
 use Rattle.words.proofs.BitLaws.{bit-twice}
 use Rattle.words.proofs.ChoiceLaws.{when-both, when-over, never}
-use Rattle.am9517_service.proofs.KeepLaws.{Supplied, run-ind}
 
 -- the world with its controller of this edition
 abbrev pub inWorld : ℕ → World → World
@@ -112,7 +111,7 @@ module _ (e : ℕ) (w : World) where
   short-in d = refl
 
 -- the ways in which a run stops before a transfer
-abbrev ways : Bool → Bool → Bool → Bool → Bool → Stop → Stop → Stop → Stop → List (Ground Stop)
+abbrev pub ways : Bool → Bool → Bool → Bool → Bool → Stop → Stop → Stop → Stop → List (Ground Stop)
 ways copy drops cascades none lacks dropped cascade limit short =
     when copy (limit if none ∷ []) (dropped if drops ∷ cascade if cascades ∷ limit if none ∷ short if lacks ∷ [])
 
@@ -123,7 +122,7 @@ stops-are : (e : ℕ) (w : World) (d : List ℕ) (left : ℕ) → let c = w .con
 unfolding stops
 stops-are e w d left = rw (copy-in e w, dropped-in e w, short-in e w d)
 
-ways-over : (f : Stop → Stop) (copy drops cascades none lacks : Bool) (p q l s x : Stop) {p' q' l' s' x' : Stop} → p' ≡ f p → q' ≡ f q → l' ≡ f l → s' ≡ f s → x' ≡ f x
+pub ways-over : (f : Stop → Stop) (copy drops cascades none lacks : Bool) (p q l s x : Stop) {p' q' l' s' x' : Stop} → p' ≡ f p → q' ≡ f q → l' ≡ f l → s' ≡ f s → x' ≡ f x
     → first (ways copy drops cascades none lacks p' q' l' s') x' ≡ f (first (ways copy drops cascades none lacks p q l s) x)
 unfolding first when
 ways-over f true drops cascades none lacks p q l s x ep eq el es ex = when-over f none (λ t. el) (λ t. ex)
@@ -161,7 +160,7 @@ counting-kept : (w : World) (d : List ℕ) → counting (transferred w d .contro
 unfolding transferred copied moved counting memoryToMemory
 counting-kept w d = when-both (λ (x : World). counting (x .controller) ≡ counting (w .controller)) (memoryToMemory (w .controller)) refl refl
 
-transfer-counted : (w : World) (d : List ℕ) → transferred w d .counts .transfers ≡ w .counts .transfers + 1
+pub transfer-counted : (w : World) (d : List ℕ) → transferred w d .counts .transfers ≡ w .counts .transfers + 1
 unfolding transferred copied moved
 transfer-counted w d = when-both (λ (x : World). x .counts .transfers ≡ w .counts .transfers + 1) (memoryToMemory (w .controller)) refl refl
 
@@ -198,20 +197,3 @@ module _ (eop n : ℕ) (d : List ℕ) where
       let kept : n ≡ counting (v .controller) = is ∙ sym (counting-kept w d) in
       stops-in eop n d w (suc left) _ _ h
       (rw (transferred-in 1 w d, transferred-in 0 w d) (ends-in (w .controller) v (w .counts .transfers) _ _ kept (transfer-counted w d) h (λ on. run-in left v kept on)))
-
--- a run keeps the edition
-transfer-edition : (w : World) (d : List ℕ) → transferred w d .controller .edition ≡ w .controller .edition
-unfolding transferred copied moved
-transfer-edition w d = when-both (λ (x : World). x .controller .edition ≡ w .controller .edition) (memoryToMemory (w .controller)) refl refl
-
-after-edition : (c : Controller) (tc met : Bool) → afterTcOrEop c tc met .edition ≡ c .edition
-unfolding afterTcOrEop finished
-after-edition c tc met = when-both (λ (x : Controller). x .edition ≡ c .edition) (memoryToMemory c) refl refl
-
-pub run-edition : (left eop : ℕ) (d : List ℕ) (w : World) → runOf left eop d w .world .controller .edition ≡ w .controller .edition
-run-edition left eop d w =
-    run-ind (λ (k : ℕ) (x : World). x .controller .edition ≡ w .controller .edition) (λ (s : Stop). s .world .controller .edition ≡ w .controller .edition) eop d
-    step (λ k x e z p. p) (λ k x p. p) (λ k x tc met p. after-edition (x .controller) tc met ∙ p) (λ k x p. p) left w refl
-  where
-    step : (k : ℕ) (x : World) → x .controller .edition ≡ w .controller .edition → Supplied x d → transferred x d .controller .edition ≡ w .controller .edition
-    step k x p s = transfer-edition x d ∙ p

@@ -16,7 +16,7 @@ use Rattle.am9517.specs.Modes.{modeRefused}
 use Rattle.am9517.specs.Ranges.{modeValid, modesValid, fieldsValid, serviceValid, valid}
 use Rattle.am9517.specs.Serving.{active, requestCounts, requests, setOf, status, picked, granted}
 use Rattle.am9517.specs.Registers.{portWritten, modeWritten, afterWrite, portRead, value, afterRead}
-use Rattle.am9517.specs.Refusals.{refusal, idle, busy, unreadable, unwritable, writeGrounds, readGrounds, pinsGrounds, resetGrounds, grantGrounds}
+use Rattle.am9517.specs.Refusals.{refusal, idle, busy, unreadable, unwritable, writeGrounds, readGrounds, pinsGrounds, resetGrounds, waitsGrounds, grantGrounds}
 use Rattle.am9517.specs.Answers.{outcome, writeOf}
 use Rattle.am9517.specs.declared.Controller.{Controller}
 use Rattle.am9517.specs.declared.Outcome.{Outcome}
@@ -32,14 +32,15 @@ use Rattle.am9517_service.specs.declared.RoundAnswer.the-variants as round
 use Rattle.am9517_sheet.specs.declared.forms.Form.the-variants.{One}
 use Rattle.am9517_sheet.specs.Body.{stateOf}
 use Rattle.am9517_sheet.specs.Sheet.{sheetIn, sheetReadGrounds}
-use Rattle.demands.specs.Operations.{Op, Write, Read, Pins, Reset, Grant, Run, Round, SheetWriting, SheetReading, scene, after, next, ranScene, roundScene}
+use Rattle.demands.specs.Operations.{Op, Write, Read, Pins, Reset, Waits, Grant, Run, Round, SheetWriting, SheetReading, scene, after, ranScene, roundScene}
 use Rattle.demands.specs.Editions.{ours, intel, Told, RunTold, RoundTold, reply, MeetsEop, Shared, asIntel, SameInBoth, withTc, EditionsDiffer}
-use Rattle.words.proofs.ChoiceLaws.{when-both, when-over}
+use Rattle.words.proofs.ChoiceLaws.{when-over}
 use Rattle.words.proofs.GroundLaws.{first-over}
 use Rattle.am9517_service.proofs.AnswerLaws.{run-refused, run-accepted}
-use Rattle.demands.proofs.Sheets.{zero-written, intel-refused}
-use Rattle.demands.proofs.EditionRunLaws.{marked, meets, inStop, Ahead, not-yet, run-in, run-edition}
-use Rattle.demands.proofs.EditionRoundLaws.{inClose, picked-in, granted-in, round-in, round-edition}
+use Rattle.demands.proofs.Sheets.{zero-written, other-refused}
+use Rattle.demands.proofs.LastLaws.{edition-kept}
+use Rattle.demands.proofs.EditionRunLaws.{marked, meets, inStop, Ahead, not-yet, run-in}
+use Rattle.demands.proofs.EditionRoundLaws.{inClose, picked-in, granted-in, round-in}
 
 -- no range tells the two editions apart
 valid-in : (s : Controller) → valid (intel s) ≡ valid (ours s)
@@ -83,6 +84,9 @@ module _ (s : Controller) where
 
   reset-number : refusal (resetGrounds (intel s)) ≡ refusal (resetGrounds (ours s))
   reset-number = ap (λ (v : Bool). refusal (1 if not v ∷ [])) (valid-in s)
+
+  waits-number : refusal (waitsGrounds (intel s)) ≡ refusal (waitsGrounds (ours s))
+  waits-number = ap (λ (v : Bool). refusal (1 if not v ∷ 3 if busy s ∷ [])) (valid-in s)
 
   same-pick : picked (intel s) ≡ picked (ours s)
   same-pick = picked-in 1 s ∙ sym (picked-in 0 s)
@@ -187,54 +191,6 @@ module _ (s : Controller) (m d r : List ℕ) (k : ℕ) where
         leaves = ap (λ (g : RoundGiven). asIntel (roundScene g)) rounded-in;
       }
 
--- The edition is kept.
-module _ (s : Controller) where
-  abbrev Keeps : Controller → Type 0
-  Keeps t = t .edition ≡ s .edition
-
-  outcome-keeps : (n : ℕ) (t : Controller) (a : Answer) → Keeps t → Keeps (outcome n s t a .controller)
-  unfolding outcome
-  outcome-keeps n t a h = when-both Keeps (eqb n 0) h refl
-
-  write-keeps : (r b : ℕ) → Keeps (afterWrite s r b)
-  unfolding afterWrite first portWritten modeWritten
-  write-keeps r b =
-      when-both Keeps (ltb r 8) refl
-      (when-both Keeps (eqb r 8) refl
-      (when-both Keeps (eqb r 9) refl
-      (when-both Keeps (eqb r 0xA) refl
-      (when-both Keeps (eqb r 0xB) refl
-      (when-both Keeps (eqb r 0xC) refl
-      (when-both Keeps (eqb r 0xD) refl
-      (when-both Keeps (eqb r 0xE) refl (when-both Keeps (eqb r 0xF) refl refl))))))))
-
-  read-keeps : (r : ℕ) → Keeps (afterRead s r)
-  unfolding afterRead first
-  read-keeps r = when-both Keeps (ltb r 8) refl (when-both Keeps (eqb r 8) refl refl)
-
-  grant-keeps : (n : ℕ) → Keeps (granted s n)
-  unfolding granted
-  grant-keeps n = refl
-
-  run-keeps : (m d r : List ℕ) (limit eop : ℕ) → Keeps (ranOf s m d r limit eop .ran .controller)
-  unfolding ranOf stopped
-  run-keeps m d r limit eop = when-both (λ (g : Given). Keeps (g .ran .controller)) (eqb (refusal (runGrounds s m)) 0) (run-edition limit eop d (startOf s m r)) refl
-
-  round-keeps : (m d r : List ℕ) (k : ℕ) → Keeps (roundedOf s m d r k .rounded .controller)
-  unfolding roundedOf closed
-  round-keeps m d r k = when-both (λ (g : RoundGiven). Keeps (g .rounded .controller)) (eqb (refusal (roundGrounds s m k)) 0) (round-edition d k (beginning s m r)) refl
-
-kept : (s : Controller) (op : Op) → ((bytes : List ℕ) → ¬ (op ≡ SheetReading bytes)) → next s op .edition ≡ s .edition
-kept s (Write r b) h = outcome-keeps s _ _ _ (write-keeps s r b)
-kept s (Read r) h = outcome-keeps s _ _ _ (read-keeps s r)
-kept s (Pins p) h = outcome-keeps s _ _ _ refl
-kept s Reset h = outcome-keeps s _ _ _ refl
-kept s Grant h = outcome-keeps s _ _ _ (grant-keeps s (picked s))
-kept s (Run m d r limit eop) h = run-keeps s m d r limit eop
-kept s (Round m d r k) h = round-keeps s m d r k
-kept s (SheetWriting out) h = refl
-kept s (SheetReading bytes) h = absurd (h bytes refl)
-
 -- What is shared, operation by operation.
 accessed : (s : Controller) (o o' : Outcome) → Alike s o o' → Told (o' .answer) ≡ Told (o .answer)
 accessed s o o' p = ap Told (p .says)
@@ -256,6 +212,8 @@ shared s (Pins p) h =
     let q = alike s _ _ (put (ours s) fields.Pins p) (put (intel s) fields.Pins p) Done Done (pins-number s p) refl refl in record { says = accessed s _ _ q; leaves = access-leaves s _ _ q }
 shared s Reset h =
     let p = alike s _ _ (cleared (ours s)) (cleared (intel s)) Done Done (reset-number s) refl refl in record { says = accessed s _ _ p; leaves = access-leaves s _ _ p }
+shared s (Waits n) h =
+    let p = alike s _ _ (put (ours s) fields.Waits n) (put (intel s) fields.Waits n) Done Done (waits-number s) refl refl in record { says = accessed s _ _ p; leaves = access-leaves s _ _ p }
 shared s Grant h =
     let p = alike s _ _ _ _ (Value (picked (ours s))) (Value (picked (intel s))) (grant-number s) (grant-in s) (ap Value (same-pick s)) in record { says = accessed s _ _ p; leaves = access-leaves s _ _ p }
 shared s (Run m d r limit eop) h = run-shared s m d r limit eop h
@@ -280,8 +238,8 @@ pub editions-differ : EditionsDiffer
 editions-differ =
     record {
       shared = shared;
-      kept = kept;
+      kept = edition-kept;
       registerE = register-e;
       metEop = λ s m d r limit eop h. (run-says s m d r limit eop, run-met s m d r limit eop h);
-      sheets = λ s out v room. (intel-refused (intel s) out v refl room, zero-written (ours s) out (sym (valid-in s) ∙ v) refl room);
+      sheets = λ s out v w room. (other-refused (intel s) out v (λ e. omega (arith, e .0)) room, zero-written (ours s) out (sym (valid-in s) ∙ v) refl w room);
     }

@@ -21,7 +21,7 @@ use Rattle.am9517.specs.declared.Answer.the-variants.{Value, Refused}
 use Rattle.am9517_service.specs.World.{Stop, startOf}
 use Rattle.am9517_service.specs.Answers.{Given, stopped, ranOf, runGrounds}
 use Rattle.demands.specs.Lists.{All, also, count}
-use Rattle.demands.specs.Operations.{Op, Write, Read, Pins, Reset, Grant, Run, Round, SheetWriting, SheetReading, next, afterAll}
+use Rattle.demands.specs.Operations.{Op, Write, Read, Pins, Reset, Waits, Grant, Run, Round, SheetWriting, SheetReading, next, afterAll}
 use Rattle.demands.specs.Grants.{Granted, told, grants, channels}
 use Rattle.demands.specs.Rounds.{callsFrom, calls, callsOf, spelled}
 use Rattle.demands.specs.Fairness.{Traced, Trace, Contends, Fair, Demand3, Demand3Reported, LowestKept}
@@ -93,6 +93,7 @@ Call (Write r b) = Unit
 Call (Read r) = Unit
 Call (Pins p) = Unit
 Call Reset = Unit
+Call (Waits n) = Unit
 Call Grant = Unit
 Call (Run m d r limit eop) = Unit
 Call (Round m d r k) = ⊥
@@ -113,6 +114,9 @@ read-kept s r = outcome-kept s _ _ _ (λ free. after-read-kept s r)
 
 pins-kept : (s : Controller) (p : ℕ) → next s (Pins p) .lowest ≡ s .lowest
 pins-kept s p = outcome-kept s _ _ _ (λ free. refl)
+
+waits-kept : (s : Controller) (n : ℕ) → next s (Waits n) .lowest ≡ s .lowest
+waits-kept s n = outcome-kept s _ _ _ (λ free. refl)
 
 reset-kept : (s : Controller) → Traced s Reset → next s Reset .lowest ≡ s .lowest
 reset-kept s t = outcome-kept s _ _ _ (λ free. absurd (t tt (number-told _ _ _ _ refl ∙ free)))
@@ -194,6 +198,7 @@ linked-of s [] u = last
 linked-of s (Write r b ∷ ops) u = linked-from (write-kept s r b (u .1)) (linked-of _ ops (u .2))
 linked-of s (Read r ∷ ops) u = linked-from (read-kept s r) (linked-of _ ops (u .2))
 linked-of s (Pins p ∷ ops) u = linked-from (pins-kept s p) (linked-of _ ops (u .2))
+linked-of s (Waits n ∷ ops) u = linked-from (waits-kept s n) (linked-of _ ops (u .2))
 linked-of s (Reset ∷ ops) u = linked-from (reset-kept s (u .1)) (linked-of _ ops (u .2))
 linked-of s (Grant ∷ ops) u = grant-linked s _ _ refl (linked-of _ ops (u .2))
 linked-of s (Run m d r limit eop ∷ ops) u = linked-from (run-kept s m d r limit eop) (linked-of _ ops (u .2))
@@ -221,6 +226,7 @@ path-of s (Write r b) t = (tt, t, tt)
 path-of s (Read r) t = (tt, t, tt)
 path-of s (Pins p) t = (tt, t, tt)
 path-of s Reset t = (tt, t, tt)
+path-of s (Waits n) t = (tt, t, tt)
 path-of s Grant t = (tt, t, tt)
 path-of s (Run m d r limit eop) t = (tt, t, tt)
 path-of s (Round m d r k) t = calls-path s m d r k
@@ -247,6 +253,7 @@ lowest-stays s [] u e = refl
 lowest-stays s (Write r b ∷ ops) u e = lowest-stays _ ops (u .2) e ∙ write-kept s r b (u .1)
 lowest-stays s (Read r ∷ ops) u e = lowest-stays _ ops (u .2) e ∙ read-kept s r
 lowest-stays s (Pins p ∷ ops) u e = lowest-stays _ ops (u .2) e ∙ pins-kept s p
+lowest-stays s (Waits n ∷ ops) u e = lowest-stays _ ops (u .2) e ∙ waits-kept s n
 lowest-stays s (Reset ∷ ops) u e = lowest-stays _ ops (u .2) e ∙ reset-kept s (u .1)
 lowest-stays s (Grant ∷ ops) u e = grant-stays s _ _ _ refl e (lowest-stays _ ops (u .2))
 lowest-stays s (Run m d r limit eop ∷ ops) u e = lowest-stays _ ops (u .2) e ∙ run-kept s m d r limit eop

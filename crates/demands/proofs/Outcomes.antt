@@ -3,7 +3,7 @@ use mathlib.Core.Path.{_≡_, refl, sym, ap, _∙_}
 use Prim.Native.Nat.{ℕ}
 use mathlib.Core.List.{List}
 use Rattle.am9517.specs.Serving.{entitled, setOf, status}
-use Rattle.am9517.specs.Answers.{writeOf, readOf, pinsOf, resetOf, grantOf}
+use Rattle.am9517.specs.Answers.{writeOf, readOf, pinsOf, resetOf, waitsOf, grantOf}
 use Rattle.am9517_service.specs.Answers.{Given, ranOf}
 use Rattle.am9517_service.specs.RoundAnswers.{RoundGiven, roundedOf}
 use Rattle.am9517_sheet.specs.declared.forms.Form.the-variants.{One}
@@ -55,6 +55,7 @@ one-outcome =
       write = record { free = λ κs a. tt; single = λ κs a x y l l' p q. (same (p .0) (q .0), refl) };
       read = record { free = λ κs a. tt; single = λ κs a x y l l' p q. (same (p .0) (q .0), refl) };
       pins = record { free = λ κs a. tt; single = λ κs a x y l l' p q. (same (p .0) (q .0), refl) };
+      waits = record { free = λ κs a. tt; single = λ κs a x y l l' p q. (same (p .0) (q .0), refl) };
       reset = record { free = λ κs a. tt; single = λ κs a x y l l' p q. (same (p .0) (q .0), refl) };
       grant = record { free = λ κs a. tt; single = λ κs a x y l l' p q. (same (p .0) (q .0), refl) };
       valid = record { free = λ κs a. tt; single = λ κs a x y l l' p q. (same p q, refl) };
@@ -102,6 +103,13 @@ one-outcome-of-calls =
       };
       cPins = record {
         promise = λ κs a r e. left (e .0 .now) (told r 0) ≡ callOf (pinsOf (a .0 .now) (a .1 .0));
+        entered = λ M 𝓤 H A mem run κs a. tt;
+        free = λ M 𝓤 H A mem run κs a g. refl;
+        says = λ M 𝓤 H A mem run κs a g r e. refl;
+        single = λ κs a x y l l' p q. (ap (λ (g : Left). g .said .refusal) (same p q), ap (λ (g : Left). (g .chip, (tt, tt))) (same p q));
+      };
+      cWaits = record {
+        promise = λ κs a r e. left (e .0 .now) (told r 0) ≡ callOf (waitsOf (a .0 .now) (a .1 .0));
         entered = λ M 𝓤 H A mem run κs a. tt;
         free = λ M 𝓤 H A mem run κs a g. refl;
         says = λ M 𝓤 H A mem run κs a g r e. refl;

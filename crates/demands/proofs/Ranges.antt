@@ -24,7 +24,7 @@ use Rattle.am9517_sheet.specs.declared.forms.Form.the-variants.{One}
 use Rattle.am9517_sheet.specs.Body.{stateOf}
 use Rattle.am9517_sheet.specs.Sheet.{sheetIn, sheetReadGrounds}
 use Rattle.demands.specs.Lists.{All, none, also}
-use Rattle.demands.specs.Operations.{Op, Write, Read, Pins, Reset, Grant, Run, Round, SheetWriting, SheetReading, next, afterAll, said}
+use Rattle.demands.specs.Operations.{Op, Write, Read, Pins, Reset, Waits, Grant, Run, Round, SheetWriting, SheetReading, next, afterAll, said}
 use Rattle.demands.specs.Refusals.{First, here, later, grounds}
 use Rattle.demands.specs.Rounds.{callsFrom}
 use Rattle.demands.specs.Ranges.{RangesKept}
@@ -36,7 +36,7 @@ use Rattle.am9517_service.proofs.AnswerLaws.{run-refused, run-accepted}
 use Rattle.am9517_service.proofs.KeepLaws.{run-left}
 use Rattle.am9517_service.proofs.GrantLaws.{picked-below}
 use Rattle.am9517_sheet.proofs.SheetLaws.{number-said}
-use Rattle.demands.proofs.AccessLaws.{cleared-ranges, write-ranges, read-ranges, pins-ranges}
+use Rattle.demands.proofs.AccessLaws.{cleared-ranges, write-ranges, read-ranges, pins-ranges, waits-ranges}
 use Rattle.demands.proofs.Refusals.{demand-1}
 use Rattle.demands.proofs.Fairness.{open-run}
 use Rattle.demands.proofs.Rounds.{round-is-calls}
@@ -95,6 +95,7 @@ pub kept : (s : Controller) (op : Op) → valid s ≡ true → valid (next s op)
 kept s (Write r b) v = outcome-valid s v _ _ _ (λ free. write-ranges s (ranges s v) r b free)
 kept s (Read r) v = outcome-valid s v _ _ _ (λ free. read-ranges s (ranges s v) r)
 kept s (Pins p) v = outcome-valid s v _ _ _ (λ free. pins-ranges s (ranges s v) p free)
+kept s (Waits n) v = outcome-valid s v _ _ _ (λ free. waits-ranges s (ranges s v) n)
 kept s Reset v = outcome-valid s v _ _ _ (λ free. cleared-ranges s (ranges s v))
 kept s Grant v = grant-valid s v
 kept s (Run m d r limit eop) v = run-valid s v m d r limit eop
@@ -128,6 +129,7 @@ never-1 : (s : Controller) (op : Op) → valid s ≡ true → All NotOne (ground
 never-1 s (Write r b) v = also (λ q. ap not v) (also (other 2 _ (λ e. omega arith)) (also (other 3 _ (λ e. omega arith)) (also (other 4 _ (λ e. omega arith)) (also (other 5 _ (λ e. omega arith)) none))))
 never-1 s (Read r) v = also (λ q. ap not v) (also (other 2 _ (λ e. omega arith)) (also (other 3 _ (λ e. omega arith)) (also (other 4 _ (λ e. omega arith)) none)))
 never-1 s (Pins p) v = also (λ q. ap not v) (also (other 2 _ (λ e. omega arith)) none)
+never-1 s (Waits n) v = also (λ q. ap not v) (also (other 3 _ (λ e. omega arith)) none)
 never-1 s Reset v = also (λ q. ap not v) none
 never-1 s Grant v = also (λ q. ap not v) (also (other 3 _ (λ e. omega arith)) (also (other 6 _ (λ e. omega arith)) none))
 never-1 s (Run m d r limit eop) v = also (λ q. ap not v) (also (other 7 _ (λ e. omega arith)) (also (other 8 _ (λ e. omega arith)) none))

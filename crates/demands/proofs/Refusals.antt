@@ -15,7 +15,7 @@ use Rattle.am9517_service.specs.declared.RoundAnswer.the-variants.{Refused}
 use Rattle.am9517_service.specs.Round.{beginning, close}
 use Rattle.am9517_service.specs.RoundAnswers.{closed, roundGrounds, roundedOf}
 use Rattle.demands.specs.Lists.{All, none, also}
-use Rattle.demands.specs.Operations.{Op, Write, Read, Pins, Reset, Grant, Run, Round, SheetWriting, SheetReading, before, after, said, counts, ranScene, roundScene}
+use Rattle.demands.specs.Operations.{Op, Write, Read, Pins, Reset, Waits, Grant, Run, Round, SheetWriting, SheetReading, before, after, said, counts, ranScene, roundScene}
 use Rattle.demands.specs.Refusals.{First, here, later, grounds, Refuses, Demand1}
 use Rattle.words.proofs.ChoiceLaws.{when-miss}
 use Rattle.am9517.proofs.RefusalLaws.{number-told}
@@ -81,6 +81,7 @@ pub demand-1 : Demand1
 demand-1 s (Write r b) = refuses s (Write r b) (number-told _ _ _ _ refl) (λ h. ap (λ (c : Controller). before c Reset) (outcome-stays _ _ _ _ h)) (λ h. none)
 demand-1 s (Read r) = refuses s (Read r) (number-told _ _ _ _ refl) (λ h. ap (λ (c : Controller). before c Reset) (outcome-stays _ _ _ _ h)) (λ h. none)
 demand-1 s (Pins p) = refuses s (Pins p) (number-told _ _ _ _ refl) (λ h. ap (λ (c : Controller). before c Reset) (outcome-stays _ _ _ _ h)) (λ h. none)
+demand-1 s (Waits n) = refuses s (Waits n) (number-told _ _ _ _ refl) (λ h. ap (λ (c : Controller). before c Reset) (outcome-stays _ _ _ _ h)) (λ h. none)
 demand-1 s Reset = refuses s Reset (number-told _ _ _ _ refl) (λ h. ap (λ (c : Controller). before c Reset) (outcome-stays _ _ _ _ h)) (λ h. none)
 demand-1 s Grant = refuses s Grant (number-told _ _ _ _ refl) (λ h. ap (λ (c : Controller). before c Reset) (outcome-stays _ _ _ _ h)) (λ h. none)
 demand-1 s (Run m d r limit eop) =

@@ -30,7 +30,7 @@ use Rattle.am9517_service.specs.Answers.{Given, runRefusalNumber, stopped, ranO
 use Rattle.am9517_service.specs.Round.{Course, Close, close, beginning, nobody, runNext, withRun, afterNext, isEnded, roundOf}
 use Rattle.am9517_service.specs.RoundAnswers.{RoundGiven, roundGiven, closed, roundGrounds, roundedOf}
 use Rattle.demands.specs.Lists.{count}
-use Rattle.demands.specs.Operations.{Op, Write, Read, Pins, Reset, Grant, Run, Round, SheetWriting, SheetReading, next, afterAll, said}
+use Rattle.demands.specs.Operations.{Op, Write, Read, Pins, Reset, Waits, Grant, Run, Round, SheetWriting, SheetReading, next, afterAll, said}
 use Rattle.demands.specs.Grants.{Granted, told, grants, channels}
 use Rattle.demands.specs.Rounds.{Words, RoundStops, hasEnded, callsFrom, calls, runs, memoryBehind, roomBehind, sums, lastAnswer, closing, Accepted, IsCalls, RoundIsCalls, callsOf, spelled, SpelledLeads}
 use Rattle.words.proofs.ChoiceLaws.{when-both, when-each, when-hit, when-miss, never}
@@ -149,11 +149,11 @@ module _ (d : List ℕ) (w : Course) (at : Stands w) (some : nobody (w .controll
   left-by =
       run-left 65536 0 (bytesLeft d w) (startOf g (w .memory) (roomLeft w)) (granted-kept c (ranges c (at .range)) n (picked-below c some)) (granted-open c n)
 
-  counted-by : Counted 65536 (length (roomLeft w)) (length (bytesLeft d w)) 65536 (x .world)
+  counted-by : Counted 65536 (length (roomLeft w)) (length (bytesLeft d w)) 65536 (g .waits) (x .world)
   unfolding runNext
   counted-by =
-      run-counted 65536 (length (roomLeft w)) (bytesLeft d w) 65536 0 (startOf g (w .memory) (roomLeft w))
-      (record { memory-length = at .memory; room-length = refl; used = omega arith; written = omega arith; transfers = omega arith; states = omega arith })
+      run-counted 65536 (length (roomLeft w)) (g .waits) (bytesLeft d w) 65536 0 (startOf g (w .memory) (roomLeft w))
+      (record { memory-length = at .memory; room-length = refl; used = omega arith; written = omega arith; transfers = omega arith; slow = refl; states = λ h. omega arith })
 
   stands-on : isEnded (x .reason) ≡ true → Stands (afterNext w d)
   unfolding withRun
@@ -351,6 +351,7 @@ pub calls-leave : (s : Controller) (op : Op) → afterAll s (callsOf s op) ≡ n
 calls-leave s (Write r b) = refl
 calls-leave s (Read r) = refl
 calls-leave s (Pins p) = refl
+calls-leave s (Waits n) = refl
 calls-leave s Reset = refl
 calls-leave s Grant = refl
 calls-leave s (Run m d r limit eop) = refl

@@ -10,7 +10,7 @@ use Rattle.words.specs.Choice.{when}
 use Rattle.words.specs.Grounds.{first}
 use Rattle.am9517.specs.Editions.{numberOf}
 use Rattle.am9517.specs.Ranges.{valid}
-use Rattle.am9517.specs.declared.Edition.the-variants.{Am9517A, Intel8237A}
+use Rattle.am9517.specs.declared.Edition.the-variants.{Am9517A}
 use Rattle.am9517.specs.declared.Controller.{Controller}
 use Rattle.am9517.specs.Refusals.{refusal}
 use Rattle.am9517_sheet.specs.declared.SheetAnswer.the-variants.{Done, Refused}
@@ -22,7 +22,7 @@ use Rattle.am9517_sheet.specs.Sheet.{sheetRefusalNumber, answerOf, sheetOf, Sto
 use Rattle.demands.specs.Sheets.{RoundTrips}
 use Rattle.am9517_sheet.proofs.BytesLaws.{last-placed}
 use Rattle.am9517_sheet.proofs.SheetLaws.{number-said, sheet-length, write-done, write-free, write-within, write-valid, write-room, read-done}
-use Rattle.am9517_sheet.proofs.BodyLaws.{zero-within, one-exceeds}
+use Rattle.am9517_sheet.proofs.BodyLaws.{zero-within, other-exceeds}
 use Rattle.am9517_sheet.proofs.TripLaws.{written-read, read-written, fresh-sheet}
 
 -- a piece put at the end has nothing behind it
@@ -46,16 +46,20 @@ read-copied t bytes out byte done room =
     ∙ ap (stored Done) (placed-last out (sheetOf One s) 56 (sheet-length One s) room)
     ∙ ap (λ (xs : List ℕ). stored Done (take (length out - 56) out ++ xs)) sheet
 
-pub zero-written : (s : Controller) (out : List ℕ) → valid s ≡ true → s .edition ≡ numberOf Am9517A → 56 ≤ length out → sheetWriteOf One s out .answer ≡ Done
-zero-written s out v e room = ap (λ (w : Stored). w .answer) (write-done One s out (write-free One s (length out) v room (zero-within s e)))
+pub zero-written : (s : Controller) (out : List ℕ) → valid s ≡ true → s .edition ≡ numberOf Am9517A → s .waits ≡ 0 → 56 ≤ length out → sheetWriteOf One s out .answer ≡ Done
+zero-written s out v e w room = ap (λ (w : Stored). w .answer) (write-done One s out (write-free One s (length out) v room (zero-within s e w)))
 
-pub intel-refused : (s : Controller) (out : List ℕ) → valid s ≡ true → s .edition ≡ numberOf Intel8237A → 56 ≤ length out → sheetWriteOf One s out ≡ stored (Refused 15) out
+pub other-refused : (s : Controller) (out : List ℕ) → valid s ≡ true → ¬ ((s .edition ≡ numberOf Am9517A) × (s .waits ≡ 0)) → 56 ≤ length out → sheetWriteOf One s out ≡ stored (Refused 15) out
 unfolding answerOf refusal first when
-intel-refused s out v e room = simp (v, le-ltb _ _ room, one-exceeds s e)
+other-refused s out v e room = simp (v, le-ltb _ _ room, other-exceeds s e)
 
 read-edition : (t : Controller) (bytes : List ℕ) → sheetReadOf One t bytes .answer ≡ Done → sheetReadOf One t bytes .controller .edition ≡ numberOf Am9517A
 unfolding stateOf
 read-edition t bytes done = ap (λ (r : SheetRead). r .controller .edition) (read-done One bytes t (sym (number-said _) ∙ ap sheetRefusalNumber done))
 
+read-waits : (t : Controller) (bytes : List ℕ) → sheetReadOf One t bytes .answer ≡ Done → sheetReadOf One t bytes .controller .waits ≡ 0
+unfolding stateOf
+read-waits t bytes done = ap (λ (r : SheetRead). r .controller .waits) (read-done One bytes t (sym (number-said _) ∙ ap sheetRefusalNumber done))
+
 pub round-trips : RoundTrips
-round-trips = record { written = zero-written; noPlace = intel-refused; readEdition = read-edition; writtenRead = written-read One; readCopied = read-copied; readWritten = read-written One; freshSheet = fresh-sheet }
+round-trips = record { written = zero-written; noPlace = other-refused; readEdition = read-edition; readWaits = read-waits; writtenRead = written-read One; readCopied = read-copied; readWritten = read-written One; freshSheet = fresh-sheet }

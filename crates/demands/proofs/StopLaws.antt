@@ -153,7 +153,7 @@ granted-undropped s h =
     (picked-entitled s h) (block-not mode 0 (λ e. omega arith)) (block-not mode 3 (λ e. omega arith))
 
 -- The count that is run falls by one with each transfer before TC.
-abbrev runCount : Controller → ℕ
+abbrev pub runCount : Controller → ℕ
 runCount c = channel c (counting c) .count
 
 counted-set : (l : List Channel) (n : ℕ) (x : Channel) → ¬ (getD l n blank .count ≡ 0) → getD (set l n x) n blank ≡ x

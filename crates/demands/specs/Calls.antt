@@ -11,10 +11,10 @@ use Rattle.am9517.specs.Editions.{numberOf}
 use Rattle.am9517.specs.State.{fresh}
 use Rattle.am9517.specs.Ranges.{valid}
 use Rattle.am9517.specs.Serving.{entitled, setOf, status}
-use Rattle.am9517.specs.Refusals.{writeGrounds, readGrounds, pinsGrounds, resetGrounds, grantGrounds}
-use Rattle.am9517.specs.Answers.{writeOf, readOf, pinsOf, resetOf, grantOf}
+use Rattle.am9517.specs.Refusals.{writeGrounds, readGrounds, pinsGrounds, resetGrounds, waitsGrounds, grantGrounds}
+use Rattle.am9517.specs.Answers.{writeOf, readOf, pinsOf, resetOf, waitsOf, grantOf}
 use Rattle.am9517.specs.declared.Controller.{Controller}
-use Rattle.am9517.specs.declared.Edition.the-variants.{Am9517A, Intel8237A}
+use Rattle.am9517.specs.declared.Edition.the-variants.{Am9517A}
 use Rattle.am9517_service.specs.Answers.{ranOf, runGrounds}
 use Rattle.am9517_service.specs.RoundAnswers.{roundedOf, roundGrounds}
 use Rattle.am9517_sheet.specs.declared.forms.Form.the-variants.{One}
@@ -36,6 +36,8 @@ pub data Call : Type 0 where
   CRead : ℕ → Call
   -- levels
   CPins : ℕ → Call
+  -- wait states
+  CWaits : ℕ → Call
   -- memory, device bytes, room, limit, EOP
   CRun : List ℕ → List ℕ → List ℕ → ℕ → ℕ → Call
   -- memory, device bytes, room, k
@@ -86,6 +88,7 @@ does s CStatus = looked s (lookOf s (status s))
 does s (CWrite r x) = leftBy (callOf (writeOf s r x))
 does s (CRead r) = leftBy (callOf (readOf s r))
 does s (CPins p) = leftBy (callOf (pinsOf s p))
+does s (CWaits n) = leftBy (callOf (waitsOf s n))
 does s CReset = leftBy (callOf (resetOf s))
 does s CGrant = leftBy (callOf (grantOf s))
 does s (CRun m d r limit eop) = ranBy (runCallOf (ranOf s m d r limit eop))
@@ -101,6 +104,7 @@ lentTo s CStatus = scene s [] [] []
 lentTo s (CWrite r x) = scene s [] [] []
 lentTo s (CRead r) = scene s [] [] []
 lentTo s (CPins p) = scene s [] [] []
+lentTo s (CWaits n) = scene s [] [] []
 lentTo s CReset = scene s [] [] []
 lentTo s CGrant = scene s [] [] []
 lentTo s (CRun m d r limit eop) = scene s m r []
@@ -116,6 +120,7 @@ callGrounds s CStatus = lookGrounds s
 callGrounds s (CWrite r x) = writeGrounds s r x
 callGrounds s (CRead r) = readGrounds s r
 callGrounds s (CPins p) = pinsGrounds s p
+callGrounds s (CWaits n) = waitsGrounds s
 callGrounds s CReset = resetGrounds s
 callGrounds s CGrant = grantGrounds s
 callGrounds s (CRun m d r limit eop) = runGrounds s m
@@ -152,9 +157,11 @@ pub record ChipsStayGood : Type 0 where
   -- 1 is said of every chip that is out of its ranges, but by a load, which asks nothing of what it replaces;
   pub byOne : (s : Controller) (c : Call) → valid s ≡ false → ((bytes : List ℕ) → ¬ (c ≡ CLoad bytes)) → does s c .refusal ≡ 1
   pub loadNeverBy1 : (s : Controller) (bytes : List ℕ) → ¬ (does s (CLoad bytes) .refusal ≡ 1)
-  -- An Am9517A in its ranges is saved into any bytes that have room, and an Intel chip is refused by 15;
-  pub saved : (s : Controller) (bytes : List ℕ) → valid s ≡ true → s .edition ≡ numberOf Am9517A → 56 ≤ length bytes → does s (CSave bytes) .refusal ≡ 0
-  pub unsaved : (s : Controller) (bytes : List ℕ) → valid s ≡ true → s .edition ≡ numberOf Intel8237A → 56 ≤ length bytes → does s (CSave bytes) .refusal ≡ 15
+  -- An Am9517A in its ranges without wait states is saved into any bytes that have room, and any other chip in its ranges is refused by 15;
+  pub saved : (s : Controller) (bytes : List ℕ) → valid s ≡ true → s .edition ≡ numberOf Am9517A → s .waits ≡ 0 → 56 ≤ length bytes
+      → does s (CSave bytes) .refusal ≡ 0
+  pub unsaved : (s : Controller) (bytes : List ℕ) → valid s ≡ true → ¬ ((s .edition ≡ numberOf Am9517A) × (s .waits ≡ 0)) → 56 ≤ length bytes
+      → does s (CSave bytes) .refusal ≡ 15
   -- what was saved is loaded, whatever chip t it is loaded into, as it was. (Four channels are the type [Channel; 4].)
   pub loaded : (s t : Controller) (bytes : List ℕ)
       → length (s .channels) ≡ 4

@@ -9,7 +9,7 @@ use Rattle.words.specs.Bits.{withBit}
 use Rattle.am9517.specs.Editions.{numberOf}
 use Rattle.am9517.specs.Fields.{put, Edition, Mask, Tc}
 use Rattle.am9517.specs.Ranges.{valid}
-use Rattle.am9517.specs.Answers.{writeOf, readOf, pinsOf, resetOf, grantOf}
+use Rattle.am9517.specs.Answers.{writeOf, readOf, pinsOf, resetOf, waitsOf, grantOf}
 use Rattle.am9517.specs.declared.Answer.{Answer}
 use Rattle.am9517.specs.declared.Answer.the-variants.{Done, Refused}
 use Rattle.am9517.specs.declared.Controller.{Controller}
@@ -24,7 +24,7 @@ use Rattle.am9517_sheet.specs.declared.SheetAnswer.{SheetAnswer}
 use Rattle.am9517_sheet.specs.declared.SheetAnswer.the-variants as sheet
 use Rattle.am9517_sheet.specs.declared.forms.Form.the-variants.{One}
 use Rattle.am9517_sheet.specs.Sheet.{stored, sheetWriteOf, sheetReadOf}
-use Rattle.demands.specs.Operations.{Op, Write, Read, Pins, Reset, Grant, Run, Round, SheetWriting, SheetReading, Scene, scene, after, next}
+use Rattle.demands.specs.Operations.{Op, Write, Read, Pins, Reset, Waits, Grant, Run, Round, SheetWriting, SheetReading, Scene, scene, after, next}
 
 -- the state as an Am9517A's, and as an Intel chip's
 abbrev pub ours : Controller → Controller
@@ -45,6 +45,7 @@ reply s (Write r b) = Told (writeOf s r b .answer)
 reply s (Read r) = Told (readOf s r .answer)
 reply s (Pins p) = Told (pinsOf s p .answer)
 reply s Reset = Told (resetOf s .answer)
+reply s (Waits n) = Told (waitsOf s n .answer)
 reply s Grant = Told (grantOf s .answer)
 reply s (Run m d r limit eop) = let g = ranOf s m d r limit eop .ran in RunTold (g .answer) (g .counts)
 reply s (Round m d r k) = let g = roundedOf s m d r k .rounded in RoundTold (g .answer) (g .services) (g .totals)
@@ -61,6 +62,7 @@ Shared s (Write r b) = ¬ (r ≡ 0xE)
 Shared s (Read r) = Unit {0}
 Shared s (Pins p) = Unit {0}
 Shared s Reset = Unit {0}
+Shared s (Waits n) = Unit {0}
 Shared s Grant = Unit {0}
 Shared s (Run m d r limit eop) = ¬ MeetsEop (ours s) m d r limit eop
 Shared s (Round m d r k) = Unit {0}
@@ -94,6 +96,6 @@ pub record EditionsDiffer : Type 0 where
   pub metEop : (s : Controller) (m d r : List ℕ) (limit eop : ℕ) → MeetsEop (ours s) m d r limit eop
       → (reply (intel s) (Run m d r limit eop) ≡ reply (ours s) (Run m d r limit eop))
       × (after (intel s) (Run m d r limit eop) ≡ withTc (counting s) (asIntel (after (ours s) (Run m d r limit eop))))
-  -- "Form 1 has no place for the edition: writing such a state is refusal 15", where ours is written.
-  pub sheets : (s : Controller) (out : List ℕ) → valid (intel s) ≡ true → 56 ≤ length out
+  -- "Form 1 has no place for the edition: writing such a state is refusal 15", where ours, without wait states, is written.
+  pub sheets : (s : Controller) (out : List ℕ) → valid (intel s) ≡ true → s .waits ≡ 0 → 56 ≤ length out
       → (sheetWriteOf One (intel s) out ≡ stored (sheet.Refused 15) out) × (sheetWriteOf One (ours s) out .answer ≡ sheet.Done)

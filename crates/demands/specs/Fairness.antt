@@ -9,7 +9,7 @@ use Rattle.am9517.specs.Modes.{rotating}
 use Rattle.am9517.specs.Serving.{entitled}
 use Rattle.am9517.specs.declared.Controller.{Controller}
 use Rattle.demands.specs.Lists.{All, count}
-use Rattle.demands.specs.Operations.{Op, Write, Read, Pins, Reset, Grant, Run, Round, SheetWriting, SheetReading, next, said}
+use Rattle.demands.specs.Operations.{Op, Write, Read, Pins, Reset, Waits, Grant, Run, Round, SheetWriting, SheetReading, next, said}
 use Rattle.demands.specs.Grants.{Granted, grants, channels}
 use Rattle.demands.specs.Rounds.{calls, reported, callsOf, spelled}
 
@@ -19,6 +19,7 @@ Restarts (Write r b) = r ≡ 13
 Restarts (Read r) = ⊥
 Restarts (Pins p) = ⊥
 Restarts Reset = Unit
+Restarts (Waits n) = ⊥
 Restarts Grant = ⊥
 Restarts (Run m d r limit eop) = ⊥
 Restarts (Round m d r k) = ⊥

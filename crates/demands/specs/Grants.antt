@@ -5,7 +5,7 @@ use Rattle.am9517.specs.Answers.{grantOf}
 use Rattle.am9517.specs.declared.Controller.{Controller}
 use Rattle.am9517.specs.declared.Answer.{Answer}
 use Rattle.am9517.specs.declared.Answer.the-variants.{Done, Value, Refused}
-use Rattle.demands.specs.Operations.{Op, Write, Read, Pins, Reset, Grant, Run, Round, SheetWriting, SheetReading, next}
+use Rattle.demands.specs.Operations.{Op, Write, Read, Pins, Reset, Waits, Grant, Run, Round, SheetWriting, SheetReading, next}
 
 -- A grant: the state that it was made in, and the channel that it went to.
 pub record Granted : Type 0 where
@@ -24,6 +24,7 @@ made s (Write r b) = []
 made s (Read r) = []
 made s (Pins p) = []
 made s Reset = []
+made s (Waits n) = []
 made s Grant = told s (grantOf s .answer)
 made s (Run m d r limit eop) = []
 made s (Round m d r k) = []

@@ -1,7 +1,7 @@
 -- The public operations with their arguments: what each is lent, what it leaves, and what it says. Each by the definition that its contract cites.
 use Prim.Native.Nat.{ℕ}
 use mathlib.Core.List.{List, [], _∷_, _++_}
-use Rattle.am9517.specs.Answers.{refusalNumber, writeOf, readOf, pinsOf, resetOf, grantOf}
+use Rattle.am9517.specs.Answers.{refusalNumber, writeOf, readOf, pinsOf, resetOf, waitsOf, grantOf}
 use Rattle.am9517.specs.declared.Controller.{Controller}
 use Rattle.am9517_service.specs.declared.Counts.{Counts}
 use Rattle.am9517_service.specs.Answers.{Given, runRefusalNumber, ranOf}
@@ -17,6 +17,8 @@ pub data Op : Type 0 where
   -- levels
   Pins : ℕ → Op
   Reset : Op
+  -- wait states
+  Waits : ℕ → Op
   Grant : Op
   -- memory, device bytes, room, limit, EOP
   Run : List ℕ → List ℕ → List ℕ → ℕ → ℕ → Op
@@ -42,6 +44,7 @@ before s (Write r b) = scene s [] [] []
 before s (Read r) = scene s [] [] []
 before s (Pins p) = scene s [] [] []
 before s Reset = scene s [] [] []
+before s (Waits n) = scene s [] [] []
 before s Grant = scene s [] [] []
 before s (Run m d r limit eop) = scene s m r []
 before s (Round m d r k) = scene s m r []
@@ -59,6 +62,7 @@ after s (Write r b) = scene (writeOf s r b .controller) [] [] []
 after s (Read r) = scene (readOf s r .controller) [] [] []
 after s (Pins p) = scene (pinsOf s p .controller) [] [] []
 after s Reset = scene (resetOf s .controller) [] [] []
+after s (Waits n) = scene (waitsOf s n .controller) [] [] []
 after s Grant = scene (grantOf s .controller) [] [] []
 after s (Run m d r limit eop) = ranScene (ranOf s m d r limit eop)
 after s (Round m d r k) = roundScene (roundedOf s m d r k)
@@ -80,6 +84,7 @@ said s (Write r b) = refusalNumber (writeOf s r b .answer)
 said s (Read r) = refusalNumber (readOf s r .answer)
 said s (Pins p) = refusalNumber (pinsOf s p .answer)
 said s Reset = refusalNumber (resetOf s .answer)
+said s (Waits n) = refusalNumber (waitsOf s n .answer)
 said s Grant = refusalNumber (grantOf s .answer)
 said s (Run m d r limit eop) = runRefusalNumber (ranOf s m d r limit eop .ran .answer)
 said s (Round m d r k) = roundRefusalNumber (roundedOf s m d r k .rounded .answer)
@@ -95,6 +100,7 @@ counts s (Write r b) = []
 counts s (Read r) = []
 counts s (Pins p) = []
 counts s Reset = []
+counts s (Waits n) = []
 counts s Grant = []
 counts s (Run m d r limit eop) = listed (ranOf s m d r limit eop .ran .counts)
 counts s (Round m d r k) = roundedOf s m d r k .rounded .services ++ listed (roundedOf s m d r k .rounded .totals)

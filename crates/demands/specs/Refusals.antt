@@ -6,14 +6,14 @@ use mathlib.Core.List.{List, _∷_}
 use mathlib.Core.Logic.{_↔_}
 use lib.ListN.{length}
 use Rattle.words.specs.Grounds.{Ground}
-use Rattle.am9517.specs.Refusals.{writeGrounds, readGrounds, pinsGrounds, resetGrounds, grantGrounds}
+use Rattle.am9517.specs.Refusals.{writeGrounds, readGrounds, pinsGrounds, resetGrounds, waitsGrounds, grantGrounds}
 use Rattle.am9517.specs.declared.Controller.{Controller}
 use Rattle.am9517_service.specs.Answers.{runGrounds}
 use Rattle.am9517_service.specs.RoundAnswers.{roundGrounds}
 use Rattle.am9517_sheet.specs.declared.forms.Form.the-variants.{One}
 use Rattle.am9517_sheet.specs.Sheet.{sheetWriteGrounds, sheetReadGrounds}
 use Rattle.demands.specs.Lists.{All}
-use Rattle.demands.specs.Operations.{Op, Write, Read, Pins, Reset, Grant, Run, Round, SheetWriting, SheetReading, before, after, said, counts}
+use Rattle.demands.specs.Operations.{Op, Write, Read, Pins, Reset, Waits, Grant, Run, Round, SheetWriting, SheetReading, before, after, said, counts}
 
 -- document 01's table of numbers, each "given exactly when" its ground is the first that holds; in its order for each operation: the very
 -- lists of the crates
@@ -22,6 +22,7 @@ grounds s (Write r b) = writeGrounds s r b
 grounds s (Read r) = readGrounds s r
 grounds s (Pins p) = pinsGrounds s p
 grounds s Reset = resetGrounds s
+grounds s (Waits n) = waitsGrounds s
 grounds s Grant = grantGrounds s
 grounds s (Run m d r limit eop) = runGrounds s m
 grounds s (Round m d r k) = roundGrounds s m k

@@ -21,7 +21,7 @@ use Rattle.am9517_service.specs.Answers.{Given, ranOf}
 use Rattle.am9517_service.specs.Round.{nobody, isEnded}
 use Rattle.am9517_service.specs.RoundAnswers.{roundGrounds, roundedOf}
 use Rattle.demands.specs.Lists.{count}
-use Rattle.demands.specs.Operations.{Op, Write, Read, Pins, Reset, Grant, Run, Round, SheetWriting, SheetReading, next, afterAll, said}
+use Rattle.demands.specs.Operations.{Op, Write, Read, Pins, Reset, Waits, Grant, Run, Round, SheetWriting, SheetReading, next, afterAll, said}
 use Rattle.demands.specs.Grants.{grants, channels}
 
 -- the run stopped, and its service ended
@@ -51,6 +51,7 @@ gave s (Write r b) = []
 gave s (Read r) = []
 gave s (Pins p) = []
 gave s Reset = []
+gave s (Waits n) = []
 gave s Grant = []
 gave s (Run m d r limit eop) = ranOf s m d r limit eop ∷ []
 gave s (Round m d r k) = []
@@ -135,6 +136,7 @@ callsOf s (Write r b) = Write r b ∷ []
 callsOf s (Read r) = Read r ∷ []
 callsOf s (Pins p) = Pins p ∷ []
 callsOf s Reset = Reset ∷ []
+callsOf s (Waits n) = Waits n ∷ []
 callsOf s Grant = Grant ∷ []
 callsOf s (Run m d r limit eop) = Run m d r limit eop ∷ []
 callsOf s (Round m d r k) = calls s m d r k

@@ -12,7 +12,7 @@ use Rattle.words.specs.Grounds.{first}
 use Rattle.words.specs.Bits.{withBit}
 use Rattle.words.specs.Bytes.{byteOf, withByte}
 use Rattle.words.specs.Steps.{stride, step, steps}
-use Rattle.am9517.specs.Fields.{make, but, blank, Field, Command, Pins, Lowest}
+use Rattle.am9517.specs.Fields.{make, put, but, blank, Field, Command, Pins, Lowest, Edition}
 use Rattle.am9517.specs.declared.Channel.{Channel}
 use Rattle.am9517.specs.declared.Answer.{Answer}
 use Rattle.am9517.specs.declared.Answer.the-variants.{Value}
@@ -25,7 +25,7 @@ use Rattle.am9517.specs.Answers.{outcome, grantOf}
 use Rattle.am9517.specs.declared.Controller.{Controller}
 use Rattle.am9517_service.specs.World.{Stop, stop, startOf, withController, memoryToMemory}
 use Rattle.am9517_service.specs.Stops.{dropped, short, stops}
-use Rattle.am9517_service.specs.States.{pace, needsS1, cost}
+use Rattle.am9517_service.specs.States.{pace, copyPace, needsS1, cost}
 use Rattle.am9517_service.specs.Transfer.{moved}
 use Rattle.am9517_service.specs.Copy.{copied}
 use Rattle.am9517_service.specs.Ends.{counting, finished, afterTcOrEop, single}
@@ -43,7 +43,7 @@ use Rattle.demands.specs.Lists.{All, none, also}
 use Rattle.demands.specs.Operations.{Grant, Run, Round, SheetWriting, SheetReading, next, afterAll, said}
 use Rattle.demands.specs.Grants.{Granted, told, grants, channels}
 use Rattle.demands.specs.Fairness.{Contends}
-use Rattle.owner.specs.Cases.{Holds, services, setUp, idleWith, ch, proved, requested, whole, limits, editionLimits, WorkedCases, Tight, p5, p6}
+use Rattle.owner.specs.Cases.{Holds, services, setUp, idleWith, ch, proved, requested, whole, limits, editionLimits, slowed, waitLimits, WorkedCases, Tight, p5, p6}
 use Rattle.words.proofs.ChoiceLaws.{when-hit, never}
 use Rattle.am9517_service.proofs.AnswerLaws.{run-accepted}
 use Rattle.am9517_service.proofs.LegRunLaws.{run-ends}
@@ -177,7 +177,7 @@ whole-cases =
 proved-cases : All Holds proved
 unfolding
     when _and_ first withBit byteOf withByte stride step modeValid modesValid fieldsValid serviceValid valid portWritten portRead modeWritten afterWrite value afterRead
-    active requestCounts requests entitled setOf status pickedFrom picked granted refusal outcome memoryToMemory dropped short stops pace needsS1 cost moved copied counting finished afterTcOrEop single
+    active requestCounts requests entitled setOf status pickedFrom picked granted refusal outcome memoryToMemory dropped short stops pace copyPace needsS1 cost moved copied counting finished afterTcOrEop single
     transferred runOf stopped
 proved-cases =
     also (λ m h. ran-whole _ m _ _ refl refl h ∙ refl)
@@ -194,7 +194,7 @@ proved-cases =
 requested-cases : All Holds requested
 unfolding
     when _and_ first withBit stride step modeValid modesValid fieldsValid serviceValid valid active requestCounts entitled setOf pickedFrom picked granted refusal outcome memoryToMemory
-    dropped short stops pace needsS1 cost moved copied counting finished afterTcOrEop single transferred runOf stopped afterWrite
+    dropped short stops pace copyPace needsS1 cost moved copied counting finished afterTcOrEop single transferred runOf stopped afterWrite
 requested-cases =
     also (λ m h. ran-whole _ m _ _ refl refl h ∙ refl)
     (also (λ m h. ran-whole _ m _ _ refl refl h ∙ refl)
@@ -202,7 +202,12 @@ requested-cases =
     (also (λ m h. ran-whole _ m _ _ refl refl h ∙ refl)
     (also (λ m h. ran-whole _ m _ _ refl refl h ∙ refl)
     (also (λ m h. ran-whole _ m _ _ refl refl h ∙ refl)
-    (also (λ m h. refl) none))))))
+    (also (λ m h. refl)
+    (also (λ m h. ran-whole _ m _ _ refl refl h ∙ refl)
+    (also (λ m h. ran-whole _ m _ _ refl refl h ∙ refl)
+    (also (λ m h. ran-whole _ m _ _ refl refl h ∙ refl)
+    (also (λ m h. ran-whole _ m _ _ refl refl h ∙ refl)
+    (also (λ m h. ran-whole _ m _ _ refl refl h ∙ refl) none)))))))))))
 
 limit-cases : All Holds limits
 unfolding
@@ -235,12 +240,23 @@ edition-cases =
     (also (λ m h. sheet-writing-says (fresh 2) m 55 h)
     (also (λ m h. refl) none))))))
 
+wait-cases : All Holds waitLimits
+unfolding
+    when _and_ first modeValid modesValid fieldsValid serviceValid valid active requestCounts entitled setOf pickedFrom picked granted refusal outcome exceeds
+wait-cases =
+    also (λ m h. refl)
+    (also (λ m h. refl)
+    (also (λ m h. refl)
+    (also (λ m h. sheet-writing-says slowed m 55 h)
+    (also (λ m h. sheet-writing-says slowed m 56 h)
+    (also (λ m h. sheet-writing-says (put slowed Edition 1) m 56 h) none)))))
+
 all-both : {A : Type 0} {P : A → Type 0} {xs ys : List A} → All P xs → All P ys → All P (xs ++ ys)
 all-both none h = h
 all-both (also p g) h = also p (all-both g h)
 
 pub worked-cases : WorkedCases
-worked-cases = all-both proved-cases (all-both requested-cases (all-both whole-cases (all-both limit-cases edition-cases)))
+worked-cases = all-both proved-cases (all-both requested-cases (all-both whole-cases (all-both limit-cases (all-both edition-cases wait-cases))))
 
 pub tight : Tight
 unfolding active requestCounts entitled

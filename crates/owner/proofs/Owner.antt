@@ -10,6 +10,8 @@ use Rattle.demands.proofs.Rounds.{round-is-calls, spelled-leads, round-stops}
 use Rattle.demands.proofs.Fairness.{demand-3, demand-3-reported, lowest-kept}
 use Rattle.demands.proofs.Copies.{copy-loop}
 use Rattle.demands.proofs.Editions.{editions-differ}
+use Rattle.demands.proofs.Waits.{slow-cards}
+use Rattle.demands.proofs.Most.{most-counted}
 use Rattle.owner.proofs.Cases.{worked-cases, tight}
 
 pub owner : Owner
@@ -33,5 +35,7 @@ owner =
       lowest = lowest-kept;
       copies = copy-loop;
       editions = editions-differ;
+      slowCards = slow-cards;
+      most = most-counted;
       tight = tight;
     }

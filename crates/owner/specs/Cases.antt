@@ -5,7 +5,7 @@ use mathlib.Core.List.{List, [], _∷_, _++_}
 use lib.ListN.{length, getD, set}
 use Rattle.am9517.specs.Editions.{numberOf}
 use Rattle.am9517.specs.State.{fresh}
-use Rattle.am9517.specs.Fields.{make, put, blank, but, Field, Command, Tc, Mask, Temporary, Pins, Lowest, Edition}
+use Rattle.am9517.specs.Fields.{make, put, blank, but, Field, Command, Tc, Mask, Temporary, Pins, Lowest, Edition, Waits}
 use Rattle.am9517.specs.Answers.{readOf}
 use Rattle.am9517.specs.declared.Channel.{Channel}
 use Rattle.am9517.specs.declared.Controller.{Controller}
@@ -132,17 +132,20 @@ a1Held = copying (ch 0x18 0x10 1 1 0x90) (ch 0x18 0x18 1 1 0x90) 3 3 4 32 (λ m.
 abbrev pub a1Count : Case
 a1Count = copying (ch 0x10 0x10 0 0 0x80) (ch 0x10 0x11 0 0xFFFF 0x80) 1 0 1 8 (λ m. m) 0x10
 
--- a case of an Intel chip: what is given begins and ends in that edition
-abbrev pub givenIntel : Expectation → Expectation
-givenIntel (Serves ns) = Serves ns
-givenIntel (Reads r b) = Reads r b
-givenIntel (Gives d eop g) =
-    Gives d eop (given (record { controller = put (g .ran .controller) Edition (numberOf Intel8237A); answer = g .ran .answer; counts = g .ran .counts }) (g .memory) (g .room))
-givenIntel (Says o n) = Says o n
+-- a case in which a field has this value: what is given begins and ends with it
+abbrev pub givenWith : Field → ℕ → Expectation → Expectation
+givenWith f v (Serves ns) = Serves ns
+givenWith f v (Reads r b) = Reads r b
+givenWith f v (Gives d eop g) =
+    Gives d eop (given (record { controller = put (g .ran .controller) f v; answer = g .ran .answer; counts = g .ran .counts }) (g .memory) (g .room))
+givenWith f v (Says o n) = Says o n
 
+abbrev pub with : Field → ℕ → Case → Case
+with f v c = record { size = c .size; start = put (c .start) f v; calls = c .calls; expected = λ m. givenWith f v (c .expected m) }
+
+-- a case of an Intel chip
 abbrev pub inIntel : Case → Case
-inIntel c =
-    record { size = c .size; start = put (c .start) Edition (numberOf Intel8237A); calls = c .calls; expected = λ m. givenIntel (c .expected m) }
+inIntel c = with Edition (numberOf Intel8237A) c
 
 -- Document 02, A2: "external EOP sets the TC bit of the channel whose count is being run (channel 1 in memory-to-memory)": P7 of an Intel chip, TC set;
 abbrev pub a2Eop : Case
@@ -175,6 +178,30 @@ a2Copied =
 abbrev pub a2Unmasked : Case
 a2Unmasked =
     record { size = 0; start = fresh (numberOf Intel8237A); calls = λ m. op.Pins 8 ∷ Write 14 0xFF ∷ Grant ∷ []; expected = λ m. Serves (3 ∷ []) }
+
+-- Document 02, A3: "Each transfer costs that many states more, memory-to-memory twice that." P2 with 3 wait states, and compressed: 12 states more;
+abbrev pub a3Normal : Case
+a3Normal =
+    with Waits 3
+    (service (ch 0xFFFE 0xFFFE 3 3 0x84) (ch 0xFFFE 2 3 0xFFFF 0x84) 0 (1 ∷ 2 ∷ 3 ∷ 4 ∷ []) 0 1 15 4 26
+    (λ m. set (set (set (set m 0xFFFE 1) 0xFFFF 2) 0x0000 3) 0x0001 4))
+
+abbrev pub a3Compressed : Case
+a3Compressed =
+    with Waits 3
+    (service (ch 0xFFFE 0xFFFE 3 3 0x84) (ch 0xFFFE 2 3 0xFFFF 0x84) 8 (1 ∷ 2 ∷ 3 ∷ 4 ∷ []) 0 1 15 4 22
+    (λ m. set (set (set (set m 0xFFFE 1) 0xFFFF 2) 0x0000 3) 0x0001 4))
+
+-- the same bytes verified: as many states;
+abbrev pub a3Verify : Case
+a3Verify = with Waits 3 (service (ch 0xFFFE 0xFFFE 3 3 0x80) (ch 0xFFFE 2 3 0xFFFF 0x80) 0 [] 0 1 15 4 26 (λ m. m))
+
+-- P4 with 3: 18 states more; P1 with all 255.
+abbrev pub a3Copied : Case
+a3Copied = with Waits 3 (copying (ch 0x10 0x10 0 0 0x80) (ch 0x10 0x13 0 0xFFFD 0x80) 1 2 3 42 (λ m. copied 0x11 0x21 (copied 0x10 0x20 m)) 0x12)
+
+abbrev pub a3All : Case
+a3All = with Waits 255 (service (ch 0x1234 0x1234 0 0 0x84) (ch 0x1234 0x1235 0 0xFFFF 0x84) 0 (0x5A ∷ []) 0 1 15 1 259 (λ m. set m 0x1234 0x5A))
 
 -- rotating; all four single (verify) with count 9 and unmasked; these lines held: as a driver sets it up
 abbrev pub setUp : ℕ → List Op
@@ -233,9 +260,12 @@ wholeFrom0 = service (ch 0 0 0xFFFF 0xFFFF 0x80) (ch 0 0 0xFFFF 0xFFFF 0x80) 0 [
 abbrev pub wholeFrom1 : Case
 wholeFrom1 = service (ch 1 1 0xFFFF 0xFFFF 0x80) (ch 1 1 0xFFFF 0xFFFF 0x80) 0 [] 0 1 15 65536 196865 (λ m. m)
 
--- an operation called in a fresh state of this edition, and the number it says
+-- an operation called in a state, in a fresh one of this edition, and the number it says
+abbrev pub calledFrom : Controller → ℕ → (List ℕ → Op) → ℕ → Case
+calledFrom s size o n = record { size = size; start = s; calls = λ m. []; expected = λ m. Says (o m) n }
+
 abbrev pub calledIn : ℕ → ℕ → (List ℕ → Op) → ℕ → Case
-calledIn edition size o n = record { size = size; start = fresh edition; calls = λ m. []; expected = λ m. Says (o m) n }
+calledIn edition = calledFrom (fresh edition)
 
 abbrev pub called : ℕ → (List ℕ → Op) → ℕ → Case
 called = calledIn (numberOf Am9517A)
@@ -249,9 +279,9 @@ running size o n =
 abbrev pub proved : List Case
 proved = p1 ∷ p2 ∷ p2compressed ∷ p3 ∷ p4 ∷ p5 ∷ p6 ∷ p7 ∷ p8 ∷ p9 ∷ []
 
--- Beside P4 and P7, for document 02's A1 and A2.
+-- Beside P1, P2, P4 and P7, for document 02's A1, A2 and A3.
 abbrev pub requested : List Case
-requested = a1Area ∷ a1Held ∷ a1Count ∷ a2Eop ∷ a2Restored ∷ a2Copied ∷ a2Unmasked ∷ []
+requested = a1Area ∷ a1Held ∷ a1Count ∷ a2Eop ∷ a2Restored ∷ a2Copied ∷ a2Unmasked ∷ a3Normal ∷ a3Compressed ∷ a3Verify ∷ a3Copied ∷ a3All ∷ []
 
 abbrev pub whole : List Case
 whole = wholeFrom0 ∷ wholeFrom1 ∷ []
@@ -288,8 +318,23 @@ editionLimits =
     ∷ calledIn 2 0 (λ m. Reset) 1
     ∷ []
 
+-- a fresh Am9517A but for one wait state
+abbrev pub slowed : Controller
+slowed = put (fresh (numberOf Am9517A)) Waits 1
+
+-- A3: "set by its own call when idle (refusals 1, 3)"; "A state with waits can't go into form 1: refusal 15", after 9; an Intel chip's, too
+abbrev pub waitLimits : List Case
+waitLimits =
+    called 0 (λ m. op.Waits 255) 0
+    ∷ running 0 (λ m. op.Waits 0) 3
+    ∷ calledIn 2 0 (λ m. op.Waits 0) 1
+    ∷ calledFrom slowed 55 (λ m. SheetWriting m) 9
+    ∷ calledFrom slowed 56 (λ m. SheetWriting m) 15
+    ∷ calledFrom (put slowed Edition (numberOf Intel8237A)) 56 (λ m. SheetWriting m) 15
+    ∷ []
+
 abbrev pub cases : List Case
-cases = proved ++ (requested ++ (whole ++ (limits ++ editionLimits)))
+cases = proved ++ (requested ++ (whole ++ (limits ++ (editionLimits ++ waitLimits))))
 
 -- Every case holds.
 abbrev pub WorkedCases : Type 0

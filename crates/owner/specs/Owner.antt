@@ -9,6 +9,8 @@ use Rattle.demands.specs.Rounds.{RoundIsCalls, RoundStops, SpelledLeads}
 use Rattle.demands.specs.Fairness.{Demand3, Demand3Reported, LowestKept}
 use Rattle.demands.specs.Copies.{CopyLoop}
 use Rattle.demands.specs.Editions.{EditionsDiffer}
+use Rattle.demands.specs.Waits.{SlowCards}
+use Rattle.demands.specs.Most.{MostCounted}
 use Rattle.owner.specs.Cases.{WorkedCases, Tight}
 
 pub record Owner : Type 2 where
@@ -42,5 +44,9 @@ pub record Owner : Type 2 where
   -- Document 02, A2: the two editions differ in a write of register E, in the TC bit where external EOP is met, in the writing of a sheet, and in
   -- nothing else; nothing changes the edition but the reading of a sheet.
   pub editions : EditionsDiffer
+  -- Document 02, A3: wait states are set by their own call and kept by all else but the reading of a sheet; each transfer costs that many states
+  -- more, of memory-to-memory twice that, and nothing else changes; the most that a run and a round count is this, it fits, and it is reached.
+  pub slowCards : SlowCards
+  pub most : MostCounted
   -- Demand 3's numbers can't be better.
   pub tight : Tight

@@ -55,7 +55,7 @@ loop-holds : tie.Need-loop-holds Inv-loop μ-loop
 loop-holds c =
     let at-facts-of = c .before in let at-that = at-facts-of .before in let at-no-counts = at-that .before in
     let entry = at-no-counts .before .before .before .before .before .before in
-    let o = opened (at-that) in rw (at-no-counts .no-counts .ensures) (looping-start (entry .args .k) (entry .args .c) (entry .args .memory .now) (entry .args .device .now) (entry .args .room .now) (at-facts-of .facts-of .result) (c .nexts-of .result) (o .0) (o .1) (o .2) (o .3) (at-facts-of .facts-of .ensures .0) (c .nexts-of .ensures) (omega arith) (omega arith))
+    let o = opened (at-that) in rw (at-no-counts .no-counts .ensures) (looping-start (entry .args .k) (entry .args .c) (entry .args .memory .now) (entry .args .device .now) (entry .args .room .now) (at-facts-of .facts-of .result) (c .nexts-of .result) (o .0) (o .1) (omega (arith, entry .good)) (o .2) (o .3) (at-facts-of .facts-of .ensures .0) (c .nexts-of .ensures) (omega arith) (omega arith))
 
 add-services : tie.Need-add-services Inv-loop μ-loop
 add-services c = let h = services-below _ _ _ _ _ _ _ _ _ _ _ _ _ _ (c .before .loop .inv) (c .loop-test .taken) in omega arith
@@ -124,7 +124,7 @@ copied-counts-requires : tie.Need-copied-counts-requires Inv-loop μ-loop
 copied-counts-requires c κs =
     let at-bounded-channel2 = c .before .before .before .before .before .before .before .before in
     let entry = at-bounded-channel2 .before .before .before .before .before .before .before in
-    let x = fits _ _ _ _ _ _ _ _ _ _ _ _ _ _ (still (entry)) in let h = at-bounded-channel2 .bounded-channel2 .ensures .2 in (omega (arith, x .transfers), omega (arith, x .states))
+    let x = fits _ _ _ _ _ _ _ _ _ _ _ _ _ _ (still (entry)) in let h = at-bounded-channel2 .bounded-channel2 .ensures .2 in (omega arith, omega (arith, x .transfers), omega (arith, x .states))
 
 nexts-after-requires : tie.Need-nexts-after-requires Inv-loop μ-loop
 nexts-after-requires c κs =
@@ -185,7 +185,7 @@ same-length-2 c =
     let o = opened (entry) in let g = still (at-that) in omega (arith, g .rolling .memory, o .2)
 
 same-length-3 : tie.Need-same-length-3 Inv-loop μ-loop
-same-length-3 c = let g = still (c .before .before .before .before .before .before .before .before .before .before .before .before .before) in omega (arith, g .rolling .room)
+same-length-3 c = let g = still (c .before .before .before .before .before .before .before .before .before .before .before .before .before) in omega (arith, g .rolling .tally .room)
 
 returns-2 : tie.Need-returns-2 Inv-loop μ-loop
 returns-2 c =
@@ -312,4 +312,4 @@ round-spec = tie.close (tie.spec Inv-loop μ-loop (search needs) (search needs) 
     sub-closing-2 closing-requires same-length-2 same-length-3 returns-2 turn-of-requires mul-there element-set-from-there (search needs)
     sub-closing-3 sub-closing-4 closing-requires-2 same-length-4 same-length-5 returns-3 nexts-after-requires-2 loop-less-3 loop-again-3
     (λ c. c .before .loop .inv .fewer) (λ c. c .before .loop .inv .long) closing-requires-3 same-length-6
-    (λ c. omega (arith, c .before .before .loop .inv .rolling .room)) returns-4)
+    (λ c. omega (arith, c .before .before .loop .inv .rolling .tally .room)) returns-4)

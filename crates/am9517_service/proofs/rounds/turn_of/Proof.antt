@@ -1,7 +1,8 @@
+use Rattle.am9517_service.specs.Bounds.{mostStates}
 use Rattle.am9517_service.specs.ClosedLegs.{legOf}
 use Rattle.am9517_service.proofs.TransferLaws.{states-most}
 use native.Mathlib.Omega.{arith}
-use Prim.Native.Nat.{_*_, _≤_}
+use Prim.Native.Nat.{_≤_}
 use borrow.Author.Needs.{needs}
 use Rattle.am9517_service.proofs.rounds.turn_of.Statement.{statement}
 use Rattle.am9517_service.proofs.rounds.turn_of.Tie as tie
@@ -14,7 +15,7 @@ unfolding legOf
 add-t21 c =
     let at-leg-of = c .before .before .before .before .before in
     let at-pre = at-leg-of .before .before .before .before .before .before .before .before .before .before .before in
-    let h : at-leg-of .leg-of .result .states ≤ 65536 * 9 = rw (at-leg-of .leg-of .ensures) (states-most _ _ _ _ (at-pre .pre .0 .4 .most) (at-pre .pre .0 .1)) in omega (arith, h, at-pre .pre .1 .1)
+    let h : at-leg-of .leg-of .result .states ≤ mostStates = rw (at-leg-of .leg-of .ensures) (states-most _ _ _ _ (at-pre .pre .0 .4 .most) (at-pre .pre .0 .1)) in omega (arith, h, at-pre .pre .1 .1)
 
 returns : tie.Need-returns
 returns c =

@@ -3,9 +3,10 @@ use Rattle.am9517_service.specs.Transfer.{writes, reads}
 use Rattle.words.proofs.ChoiceLaws.{when-le}
 use mathlib.Core.Bool.{false}
 use mathlib.Core.Path.{refl, _≡_, sym, ap, _∙_}
-use Prim.Native.Nat.{_%_, ℕ, _<_, _≤_, _*_}
+use Prim.Native.Nat.{_%_, ℕ, _<_, _≤_}
 use Rattle.am9517_service.proofs.LegLaws.{leg-led, leg-stocked, leg-answer}
 use Rattle.am9517_service.proofs.CopyLegLaws.{serving-0}
+use Rattle.am9517_service.specs.Bounds.{mostStates}
 use Rattle.am9517_service.proofs.TransferLaws.{states-most, pace-most}
 use Rattle.am9517_service.proofs.AnswerLaws.{run-refused, run-accepted, run-open, serving-is}
 use Rattle.am9517_service.specs.ClosedLegs.{legOf}
@@ -57,7 +58,7 @@ counted-requires c κs =
     let at-sixteen-bits = at-active .before in let at-if2 = at-sixteen-bits .before in let at-memory-to-memory-bit = at-if2 .before in
     let at-if1 = at-memory-to-memory-bit .before in let at-run-refusal = at-if1 .before in
     let entry = at-run-refusal .before .before .before .before .before .before in
-    let s = entry in let c₀ = s .args .t1 in let m = s .args .memory .now in let d = s .args .device .now in let r = s .args .room .now in let e = sym (at-run-refusal .run-refusal .ensures) ∙ at-if1 .if1 .left in let o = run-open c₀ m e in let nc : memoryToMemory c₀ ≡ false = rw (at-memory-to-memory-bit .memory-to-memory-bit .ensures) at (at-if2 .if2 .left) in let ch = channel c₀ (c₀ .serving % 4) in let below : ch .address < 65536 = at-sixteen-bits .sixteen-bits .ensures .0 in let small : ch .count < 65536 = at-sixteen-bits .sixteen-bits .ensures .1 in let most = leg-led c₀ m d r _ _ nc _ (serving-is c₀ (o .serving)) ch refl below small _ (at-active .active .ensures) _ (at-span-of .span-of .ensures) .most in let h : at-open-leg .open-leg .result .states ≤ 65536 * 9 = rw (at-open-leg .open-leg .ensures) (states-most _ _ _ _ most (pace-most _)) in let n = at-span-of .span-of .result .transfers in rw (c .no-counts .ensures) (omega (arith, most), omega (arith, most, when-le (writes ch) n), omega (arith, most, when-le (reads ch) n), omega (arith, h))
+    let s = entry in let c₀ = s .args .t1 in let m = s .args .memory .now in let d = s .args .device .now in let r = s .args .room .now in let e = sym (at-run-refusal .run-refusal .ensures) ∙ at-if1 .if1 .left in let o = run-open c₀ m e in let nc : memoryToMemory c₀ ≡ false = rw (at-memory-to-memory-bit .memory-to-memory-bit .ensures) at (at-if2 .if2 .left) in let ch = channel c₀ (c₀ .serving % 4) in let below : ch .address < 65536 = at-sixteen-bits .sixteen-bits .ensures .0 in let small : ch .count < 65536 = at-sixteen-bits .sixteen-bits .ensures .1 in let most = leg-led c₀ m d r _ _ nc _ (serving-is c₀ (o .serving)) ch refl below small _ (at-active .active .ensures) _ (at-span-of .span-of .ensures) .most in let h : at-open-leg .open-leg .result .states ≤ mostStates = rw (at-open-leg .open-leg .ensures) (states-most _ _ _ _ most (pace-most _ _ (omega (arith, s .good)))) in let n = at-span-of .span-of .result .transfers in rw (c .no-counts .ensures) (omega (arith, most), omega (arith, most, when-le (writes ch) n), omega (arith, most, when-le (reads ch) n), omega (arith, h))
 
 move-bytes-requires : tie.Need-move-bytes-requires
 unfolding memoryToMemory

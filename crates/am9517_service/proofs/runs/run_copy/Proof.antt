@@ -55,7 +55,7 @@ after-copy-requires c κs = s (c .before .before .before .before .before .before
 copied-counts-requires : tie.Need-copied-counts-requires
 copied-counts-requires c κs =
     let h = led (c .before .before .before .before .before .before .before .before .before .before .before) [] [] [] .most in
-    rw (c .no-counts .ensures) (omega (arith, h), omega (arith, h))
+    rw (c .no-counts .ensures) (h, omega (arith, h), omega arith)
 
 returns-2 : tie.Need-returns-2
 returns-2 c =

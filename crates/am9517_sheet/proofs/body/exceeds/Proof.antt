@@ -1,5 +1,5 @@
 use mathlib.Core.Path.{_≡_, refl}
-use mathlib.Core.Bool.{not}
+use mathlib.Core.Bool.{not, _||_}
 use lib.Dec.{eqb}
 use Rattle.am9517.specs.declared.Controller.{Controller}
 use Rattle.am9517_sheet.specs.declared.forms.Form.{Form}
@@ -9,9 +9,9 @@ use Rattle.am9517_sheet.proofs.body.exceeds.Statement.{statement}
 use Rattle.am9517_sheet.proofs.body.exceeds.Tie as tie
 
 -- the one form there is
-is : (form : Form) (s : Controller) → not (eqb (s .edition) 0) ≡ exceeds form s
+is : (form : Form) (s : Controller) → not (eqb (s .waits) 0) || not (eqb (s .edition) 0) ≡ exceeds form s
 unfolding exceeds
 is One s = refl
 
 pub exceeds-spec : {M : Type 1} → statement M
-exceeds-spec = tie.close (tie.spec (λ c. is (c .before .args .form) (c .before .args .c)))
+exceeds-spec = tie.close (tie.spec (λ c. is (c .before .before .args .form) (c .before .before .args .c)))

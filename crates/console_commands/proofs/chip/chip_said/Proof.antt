@@ -50,26 +50,30 @@ returns-10 c = simp (c .before .before .before .before .enum-told10 .given .1) (
 
 returns-11 : tie.Need-returns-11
 unfolding chipReply
-returns-11 c = simp (c .before .before .before .before .enum-told11 .given .1) (c .before .before .grant .ensures)
+returns-11 c = simp (c .before .before .before .before .enum-told11 .given .1) (c .before .before .waits .ensures)
 
 returns-12 : tie.Need-returns-12
 unfolding chipReply
-returns-12 c =
-    let at-sheet = c .before .before .before .before in let at-enum-told12 = at-sheet .before .before .before in
-    let at-pre = at-enum-told12 .before .before .before .before .before .before in
-    simp (at-enum-told12 .enum-told12 .given .1) (at-sheet .sheet .ensures ∙ ap (saying _) (when-hit _ _ _ (le-leb _ _ (at-pre .pre .0))))
+returns-12 c = simp (c .before .before .before .before .enum-told12 .given .1) (c .before .before .grant .ensures)
 
 returns-13 : tie.Need-returns-13
 unfolding chipReply
 returns-13 c =
-    let at-load = c .before .before .before .before in let at-enum-told13 = at-load .before .before .before in
+    let at-sheet = c .before .before .before .before in let at-enum-told13 = at-sheet .before .before .before in
     let at-pre = at-enum-told13 .before .before .before .before .before .before in
-    simp (at-enum-told13 .enum-told13 .given .1) (at-load .load .ensures ∙ ap (saying _) (when-hit _ _ _ (le-leb _ _ (at-pre .pre .1))))
+    simp (at-enum-told13 .enum-told13 .given .1) (at-sheet .sheet .ensures ∙ ap (saying _) (when-hit _ _ _ (le-leb _ _ (at-pre .pre .0))))
+
+returns-14 : tie.Need-returns-14
+unfolding chipReply
+returns-14 c =
+    let at-load = c .before .before .before .before in let at-enum-told14 = at-load .before .before .before in
+    let at-pre = at-enum-told14 .before .before .before .before .before .before in
+    simp (at-enum-told14 .enum-told14 .given .1) (at-load .load .ensures ∙ ap (saying _) (when-hit _ _ _ (le-leb _ _ (at-pre .pre .1))))
 
 pub chip-said-spec : {M : Type 1} → statement M
 chip-said-spec = tie.close (tie.spec (search needs) (search needs) (search needs) (search needs) (search needs) (search needs) (search needs)
     (search needs) (search needs) (search needs) (search needs) (search needs) (search needs) (search needs) (search needs) (search needs)
     (search needs) (search needs) (search needs) (search needs) (search needs) (search needs) (search needs) (search needs) (search needs)
-    (search needs) (search needs) returns (search needs) returns-2 (search needs) returns-3 (search needs) returns-4 (search needs) returns-5
-    (search needs) returns-6 (search needs) returns-7 (search needs) returns-8 (search needs) returns-9 (search needs) returns-10 (search needs)
-    returns-11 (search needs) (search needs) returns-12 (search needs) (search needs) returns-13)
+    (search needs) (search needs) (search needs) (search needs) returns (search needs) returns-2 (search needs) returns-3 (search needs) returns-4
+    (search needs) returns-5 (search needs) returns-6 (search needs) returns-7 (search needs) returns-8 (search needs) returns-9 (search needs)
+    returns-10 (search needs) returns-11 (search needs) returns-12 (search needs) (search needs) returns-13 (search needs) (search needs) returns-14)
