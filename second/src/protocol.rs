@@ -75,7 +75,7 @@ impl Console {
         match words {
             [b"state"] => Ok(format!("state {}", to_hex(&self.controller.body()))),
             [b"state", hex] => self.take_state(&bytes(hex)?),
-            [b"full"] => Ok(format!("full {}", to_hex(&self.controller.full()))),
+            [b"full"] => self.show_full(),
             [b"full", hex] => self.take_full(&bytes(hex)?),
             [b"fresh"] => self.fresh(AM9517A),
             [b"fresh", edition] => self.fresh(edition_of(edition)?),
@@ -83,6 +83,7 @@ impl Console {
             [b"read", register] => self.read(number32(register)?),
             [b"pins", levels] => self.pins(number32(levels)?),
             [b"reset"] => self.reset(),
+            [b"waits", waits] => self.waits(number(waits)?),
             [b"grant"] => self.grant(),
             [b"memory", length] => self.lend(number(length)?),
             [b"poke", address, hex] => self.poke(number(address)?, &bytes(hex)?),
@@ -111,13 +112,31 @@ impl Console {
         if !faults::on(Fault::StateDropsEdition) {
             next.edition = self.controller.edition;
         }
+        if !faults::on(Fault::StateDropsWaits) {
+            next.waits = self.controller.waits;
+        }
         self.take(next)
     }
 
-    /// "the state is now these 50 bytes, taken with no range check"; the waits are "00 before A3".
+    fn show_full(&self) -> Answer {
+        let mut full = self.controller.full();
+        if faults::on(Fault::FullHidesWaits) {
+            full[1] = 0;
+        }
+        Ok(format!("full {}", to_hex(&full)))
+    }
+
+    /// "the state is now these 50 bytes, taken with no range check".
     fn take_full(&mut self, given: &[u8]) -> Answer {
         let full: &[u8; FULL_LENGTH] = given.try_into().map_err(|_| Fail::Error)?;
-        self.take(Controller::from_full(full).ok_or(Fail::Error)?)
+        let mut next = Controller::from_full(full);
+        match faults::chosen() {
+            Some(Fault::FullRefusesWaits) if next.waits != 0 => return Err(Fail::Error),
+            Some(Fault::FullDropsWaits) => next.waits = 0,
+            Some(Fault::FullKeepsWaits) => next.waits = self.controller.waits,
+            _ => {}
+        }
+        self.take(next)
     }
 
     /// "a fresh state of edition E, 0 (also when E is missing) Am9517A or 1 Intel".
@@ -127,7 +146,11 @@ impl Console {
             Some(Fault::FreshKeepsEdition) if edition == AM9517A => self.controller.edition,
             _ => edition,
         };
-        self.take(Controller::fresh_of(edition))
+        let mut next = Controller::fresh_of(edition);
+        if faults::on(Fault::FreshKeepsWaits) {
+            next.waits = self.controller.waits;
+        }
+        self.take(next)
     }
 
     fn write(&mut self, register: u32, value: u8) -> Answer {
@@ -149,6 +172,25 @@ impl Console {
     fn reset(&mut self) -> Answer {
         let next = self.controller.reset()?;
         self.take(next)
+    }
+
+    fn waits(&mut self, given: u64) -> Answer {
+        let waits = u8::try_from(given).or_else(|_| self.too_many_waits(given))?;
+        let next = self.controller.set_waits(waits)?;
+        self.take(next)
+    }
+
+    /// "N over 255 is `error`", before any refusal.
+    fn too_many_waits(&self, given: u64) -> Result<u8, Fail> {
+        match faults::chosen() {
+            Some(Fault::WaitsLineCut) => Ok(given as u8),
+            Some(Fault::WaitsLineRefused) => Err(Fail::Refused(Refusal::TooLarge)),
+            Some(Fault::WaitsLineLate) => {
+                self.controller.set_waits(0)?;
+                Err(Fail::Error)
+            }
+            _ => Err(Fail::Error),
+        }
     }
 
     fn grant(&mut self) -> Answer {
@@ -222,12 +264,17 @@ impl Console {
     }
 
     fn load(&mut self, given: &[u8]) -> Answer {
-        if faults::on(Fault::IntelLoadRefused) && self.controller.is_intel() {
-            return Err(Fail::Refused(Refusal::NoPlace));
+        let now = self.controller;
+        match faults::chosen() {
+            Some(Fault::IntelLoadRefused) if now.is_intel() => return Err(Refusal::NoPlace.into()),
+            Some(Fault::WaitsLoadRefused) if now.waits != 0 => return Err(Refusal::NoPlace.into()),
+            _ => {}
         }
         let mut next = Controller::read_sheet(given)?;
-        if faults::on(Fault::LoadKeepsEdition) {
-            next.edition = self.controller.edition;
+        match faults::chosen() {
+            Some(Fault::LoadKeepsEdition) => next.edition = now.edition,
+            Some(Fault::LoadKeepsWaits) => next.waits = now.waits,
+            _ => {}
         }
         self.take(next)
     }

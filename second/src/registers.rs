@@ -97,8 +97,10 @@ impl Controller {
     /// "D write: master clear, as reset."
     fn master_clear(self) -> Controller {
         let mut next = self.cleared();
-        if faults::on(Fault::MasterClearDropsEdition) {
-            next.edition = AM9517A;
+        match faults::chosen() {
+            Some(Fault::MasterClearDropsEdition) => next.edition = AM9517A,
+            Some(Fault::MasterClearClearsWaits) => next.waits = 0,
+            _ => {}
         }
         next
     }

@@ -1,4 +1,4 @@
-//! A round of services (document 01, "A round").
+//! A round of services (document 01, "A round"; document 02, A3).
 
 use crate::faults::{self, Fault};
 use crate::run::{refuse_memory, Stop, Tally};
@@ -120,6 +120,16 @@ fn sum(total: Tally, part: Tally) -> Tally {
         transfers: total.transfers + part.transfers,
         used: total.used + part.used,
         written: total.written + part.written,
-        states: total.states + part.states,
+        states: sum_of_states(total.states, part.states),
+    }
+}
+
+/// Document 02, A3: "a long round now passes 32 bits".
+fn sum_of_states(total: u64, part: u64) -> u64 {
+    let most_of_32_bits = u64::from(u32::MAX);
+    match faults::chosen() {
+        Some(Fault::StatesCutTo32) => (total + part) & most_of_32_bits,
+        Some(Fault::StatesStayAt32) => (total + part).min(most_of_32_bits),
+        _ => total + part,
     }
 }

@@ -1,5 +1,5 @@
 //! A run of one service (document 01, "A run of one service", "Memory-to-memory" and "Working
-//! states"; document 02, A1 and A2), one transfer at a time.
+//! states"; document 02, A1 to A3), one transfer at a time.
 
 use crate::faults::{self, Fault};
 use crate::state::{Channel, Controller, Mode, Refusal, Type, MEMORY_LENGTH};
@@ -76,6 +76,9 @@ impl Controller {
             if self.is_rotating() && !next.in_service() && !cut_before {
                 next.lowest = self.serving;
             }
+        }
+        if faults::on(Fault::EndClearsWaits) && !next.in_service() {
+            next.waits = 0;
         }
         Ok((next, stop, service.tally))
     }
@@ -168,7 +171,7 @@ impl Service<'_> {
     fn transfer(&mut self, meets_eop: bool) {
         let number = usize::from(self.controller.serving);
         let address = self.controller.channels[number].current_address;
-        self.count_states(address);
+        self.count_states(number, address);
         self.move_byte(number, address);
         if !(number == 0 && self.controller.command & 2 != 0 && faults::on(Fault::HoldAlways)) {
             self.step_address(number);
@@ -197,12 +200,14 @@ impl Service<'_> {
 
     /// "Normal transfer 3, compressed 2, plus 1 (state S1) when the latch is empty or differs from
     /// the upper address byte, which is then latched."
-    fn count_states(&mut self, address: u16) {
+    fn count_states(&mut self, number: usize, address: u16) {
         let compressed = self.controller.command & 8 != 0 && !faults::on(Fault::NeverCompressed);
         let mut states = if compressed { 2 } else { 3 };
         let upper = (address >> 8) as u8;
         let empty = self.controller.latch_full == 0;
-        if empty || self.controller.latch != upper {
+        let has_s1 = empty || self.controller.latch != upper;
+        states += self.wait_states(number, has_s1);
+        if has_s1 {
             if !(empty && faults::on(Fault::S1OnCarryOnly)) {
                 states += 1;
             }
@@ -213,6 +218,26 @@ impl Service<'_> {
             states += 1;
         }
         self.tally.states += states;
+    }
+
+    /// Document 02, A3: "Each transfer costs that many states more", whatever its type and timing.
+    fn wait_states(&self, number: usize, has_s1: bool) -> u64 {
+        let now = self.controller;
+        let transfer = now.channels[number].transfer_type();
+        let waits = u64::from(now.waits);
+        match faults::chosen() {
+            Some(Fault::WaitsForgotten) => 0,
+            Some(Fault::VerifyHasNoWaits) if transfer == Type::Verify => 0,
+            Some(Fault::WriteHasNoWaits) if transfer == Type::Write => 0,
+            Some(Fault::ReadHasNoWaits) if transfer == Type::Read => 0,
+            Some(Fault::CompressedHasNoWaits) if now.command & 8 != 0 => 0,
+            Some(Fault::IntelHasNoWaits) if now.is_intel() => 0,
+            Some(Fault::WaitsWithS1Only) if !has_s1 => 0,
+            Some(Fault::FirstWaitsOnly) if self.tally.transfers > 0 => 0,
+            Some(Fault::WaitsTwice) => 2 * waits,
+            Some(Fault::WaitsOfSevenBits) => waits & 0x7F,
+            _ => waits,
+        }
     }
 
     /// "verify moves nothing; write stores the next device byte at the current address; read puts
@@ -425,9 +450,9 @@ impl Service<'_> {
         }
     }
 
-    /// "Memory-to-memory 8 always, latch unused."
+    /// "Memory-to-memory 8 always, latch unused." The waits come on top.
     fn count_pair_states(&mut self, to: usize) {
-        let mut states = 8;
+        let mut states = 8 + self.pair_wait_states();
         if faults::on(Fault::InventsState) {
             states += 1;
         }
@@ -439,6 +464,19 @@ impl Service<'_> {
             self.controller.latch = (to >> 8) as u8;
         }
         self.tally.states += states;
+    }
+
+    /// Document 02, A3: "memory-to-memory twice that", under address hold too.
+    fn pair_wait_states(&self) -> u64 {
+        let waits = u64::from(self.controller.waits);
+        match faults::chosen() {
+            Some(Fault::WaitsForgotten | Fault::PairHasNoWaits) => 0,
+            Some(Fault::PairWaitsOnce) => waits,
+            Some(Fault::HeldPairWaitsOnce) if self.is_held() => waits,
+            Some(Fault::PairWaitsOfOneByte) => (2 * waits) & 0xFF,
+            Some(Fault::IntelHasNoWaits) if self.controller.is_intel() => 0,
+            _ => 2 * waits,
+        }
     }
 
     /// "At TC or EOP the service ends, request bits 0 and 1 are cleared, and channel 1 restores or

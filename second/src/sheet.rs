@@ -1,4 +1,4 @@
-//! The stored sheet, form 1 (document 01, "The stored sheet"; document 02, A2).
+//! The stored sheet, form 1 (document 01, "The stored sheet"; document 02, A2 and A3).
 
 use crate::faults::{self, Fault};
 use crate::state::{Controller, Refusal, BODY_LENGTH};
@@ -10,25 +10,41 @@ impl Controller {
     /// Write the sheet into the last 56 bytes; "the rest isn't touched". "sheet writing 1, 9";
     /// document 02, A2: "writing such a state is refusal 15, after 1 and 9".
     pub fn write_sheet(self, slice: &mut [u8]) -> Result<(), Refusal> {
-        if faults::on(Fault::FifteenBeforeOne) && slice.len() >= SHEET_LENGTH {
-            self.refuse_intel()?;
+        let short = slice.len() < SHEET_LENGTH;
+        match faults::chosen() {
+            Some(Fault::FifteenBeforeOne) if !short => self.refuse_without_place()?,
+            Some(Fault::WaitsBeforeOne) if !short => self.refuse_waits()?,
+            _ => {}
         }
         self.refuse_broken()?;
-        if faults::on(Fault::FifteenBeforeNine) {
-            self.refuse_intel()?;
+        match faults::chosen() {
+            Some(Fault::FifteenBeforeNine) => self.refuse_without_place()?,
+            Some(Fault::WaitsBeforeNine) => self.refuse_waits()?,
+            _ => {}
         }
-        if slice.len() < SHEET_LENGTH {
+        if short {
             return Err(Refusal::ShortSlice);
         }
-        self.refuse_intel()?;
+        self.refuse_without_place()?;
         let start = slice.len() - SHEET_LENGTH;
         slice[start..].copy_from_slice(&self.sheet());
         Ok(())
     }
 
-    /// "Form 1 has no place for the edition".
-    fn refuse_intel(self) -> Result<(), Refusal> {
+    /// "Form 1 has no place for the edition", nor for waits.
+    fn refuse_without_place(self) -> Result<(), Refusal> {
+        if faults::on(Fault::FifteenNeedsBoth) && !(self.is_intel() && self.waits != 0) {
+            return Ok(());
+        }
         if self.is_intel() && !faults::on(Fault::IntelSheetWritten) {
+            return Err(Refusal::NoPlace);
+        }
+        self.refuse_waits()
+    }
+
+    /// Document 02, A3: "A state with waits can't go into form 1: refusal 15."
+    fn refuse_waits(self) -> Result<(), Refusal> {
+        if self.waits != 0 && !faults::on(Fault::WaitsSheetWritten) {
             return Err(Refusal::NoPlace);
         }
         Ok(())
@@ -47,7 +63,7 @@ impl Controller {
     }
 
     /// Read a sheet. "sheet reading 9 to 14 in order"; "10 end mark; 11 first two trailer bytes; 12
-    /// distance; 13 sum; 14 range". The state read is an Am9517A's.
+    /// distance; 13 sum; 14 range". The state read is an Am9517A's without waits.
     pub fn read_sheet(slice: &[u8]) -> Result<Controller, Refusal> {
         if slice.len() < SHEET_LENGTH || faults::on(Fault::RefusesAlways) {
             return Err(Refusal::ShortSlice);

@@ -1,12 +1,12 @@
-//! The controller's state with its edition, its 48 body bytes, its ranges, and the refusal numbers
-//! (document 01, "The controller's state", "Refusal numbers" and "The stored sheet"; document 02,
-//! A2).
+//! The controller's state with its edition and waits, its 48 body bytes, its ranges, and the refusal
+//! numbers (document 01, "The controller's state", "Refusal numbers" and "The stored sheet";
+//! document 02, A2 and A3).
 
 use crate::faults::{self, Fault};
 
 /// "Body, 48 bytes".
 pub const BODY_LENGTH: usize = 48;
-/// "edition, waits (00 before A3), the 48 body bytes".
+/// "edition, waits, the 48 body bytes".
 pub const FULL_LENGTH: usize = 2 + BODY_LENGTH;
 /// "memory not of 65,536 bytes" is refusal 7.
 pub const MEMORY_LENGTH: usize = 65_536;
@@ -49,7 +49,8 @@ pub enum Refusal {
     Sum = 13,
     /// "14 range"
     Range = 14,
-    /// Document 02, A2: "Form 1 has no place for the edition: writing such a state is refusal 15".
+    /// Document 02, A2: "Form 1 has no place for the edition: writing such a state is refusal 15";
+    /// A3: "A state with waits can't go into form 1: refusal 15."
     NoPlace = 15,
 }
 
@@ -130,12 +131,14 @@ pub fn mode_is_refused(byte: u8) -> bool {
     byte & 0x0C == 0x0C && byte & 0xC0 != 0xC0
 }
 
-/// The whole state. Every field is as wide as its place in the body, so that an edition and any 48
-/// bytes are a state; those that break a range are refused by every operation (1).
+/// The whole state. Every field is as wide as its place in the body, so that an edition, waits and
+/// any 48 bytes are a state; those that break a range are refused by every operation (1).
 #[derive(Clone, Copy, Debug, PartialEq, Eq)]
 pub struct Controller {
     /// "chosen when a state is made and kept in it through reset"
     pub edition: u8,
+    /// "a byte of wait states"; any value will do, so it breaks no range.
+    pub waits: u8,
     pub channels: [Channel; 4],
     pub command: u8,
     pub tc: u8,
@@ -162,6 +165,7 @@ impl Controller {
     pub fn fresh_of(edition: u8) -> Controller {
         Controller {
             edition,
+            waits: 0,
             channels: [Channel::ZERO; 4],
             command: 0,
             tc: 0,
@@ -183,13 +187,16 @@ impl Controller {
     pub fn reset(self) -> Result<Controller, Refusal> {
         self.refuse_broken()?;
         let mut next = self.cleared();
-        if faults::on(Fault::ResetDropsEdition) {
-            next.edition = AM9517A;
+        match faults::chosen() {
+            Some(Fault::ResetDropsEdition) => next.edition = AM9517A,
+            Some(Fault::ResetClearsWaits) => next.waits = 0,
+            _ => {}
         }
         Ok(next)
     }
 
-    /// What reset and master clear do. The edition is "kept in it through reset".
+    /// What reset and master clear do. The edition is "kept in it through reset", and the waits are
+    /// "unchanged by reset".
     pub fn cleared(self) -> Controller {
         let mut next = self.with_service_ended();
         next.command = 0;
@@ -216,6 +223,21 @@ impl Controller {
             Ok(levels) if levels <= 15 => Ok(Controller { pins: levels, ..self }),
             _ => Err(Refusal::TooLarge),
         }
+    }
+
+    /// "a byte of wait states, set by its own call when idle (refusals 1, 3)": a byte has no value
+    /// too large.
+    pub fn set_waits(self, waits: u8) -> Result<Controller, Refusal> {
+        if faults::on(Fault::WaitsThreeFirst) {
+            self.refuse_during_service()?;
+        }
+        if !faults::on(Fault::WaitsOverBroken) {
+            self.refuse_broken()?;
+        }
+        if !faults::on(Fault::WaitsInService) {
+            self.refuse_during_service()?;
+        }
+        Ok(Controller { waits, ..self })
     }
 
     /// Is it of the Intel edition?
@@ -297,7 +319,7 @@ impl Controller {
         body
     }
 
-    /// The Am9517A state these 48 bytes stand for, with no range check.
+    /// The Am9517A state without waits that these 48 bytes stand for, with no range check.
     pub fn from_body(body: &[u8; BODY_LENGTH]) -> Controller {
         let mut channels = [Channel::ZERO; 4];
         for (number, channel) in channels.iter_mut().enumerate() {
@@ -310,6 +332,7 @@ impl Controller {
         }
         Controller {
             edition: AM9517A,
+            waits: 0,
             channels,
             command: body[36],
             tc: body[37],
@@ -326,23 +349,20 @@ impl Controller {
         }
     }
 
-    /// "edition, waits (00 before A3), the 48 body bytes".
+    /// "edition, waits, the 48 body bytes".
     pub fn full(self) -> [u8; FULL_LENGTH] {
         let mut full = [0; FULL_LENGTH];
         full[0] = self.edition;
+        full[1] = self.waits;
         full[2..].copy_from_slice(&self.body());
         full
     }
 
-    /// The state these 50 bytes stand for, with no range check; None where the second is not 00,
-    /// for which a state has no place yet.
-    pub fn from_full(full: &[u8; FULL_LENGTH]) -> Option<Controller> {
-        if full[1] != 0 && !faults::on(Fault::FullTakesWaits) {
-            return None;
-        }
+    /// The state these 50 bytes stand for, with no range check.
+    pub fn from_full(full: &[u8; FULL_LENGTH]) -> Controller {
         let mut body = [0; BODY_LENGTH];
         body.copy_from_slice(&full[2..]);
-        Some(Controller { edition: full[0], ..Controller::from_body(&body) })
+        Controller { edition: full[0], waits: full[1], ..Controller::from_body(&body) }
     }
 }
 

@@ -45,9 +45,10 @@ impl Writer {
         self.say(&[Name("fresh"), Number(u64::from(edition))]);
     }
 
-    /// `state`, which leaves the edition, or `full`.
+    /// `state`, which leaves edition and waits, or `full`.
     pub fn say_state(&mut self, state: Controller) {
-        let same = state.edition == self.controller().edition;
+        let now = self.controller();
+        let same = state.edition == now.edition && state.waits == now.waits;
         if self.random.chance(if same { 65 } else { 8 }) {
             return self.say(&[Name("state"), Hex(state.body().to_vec())]);
         }
@@ -145,8 +146,8 @@ impl Writer {
         self.write(0xE, byte);
     }
 
-    /// "kept in it through reset", and through master clear.
-    fn clear_and_show(&mut self) {
+    /// "kept in it through reset", and through master clear; so are the waits.
+    pub fn clear_and_show(&mut self) {
         if self.random.chance(50) {
             self.say(&[Name("reset")]);
         } else {
@@ -155,7 +156,7 @@ impl Writer {
         self.show_full();
     }
 
-    fn store_and_read(&mut self) {
+    pub fn store_and_read(&mut self) {
         let length = self.random.pick(&[54, 55, 55, 56, 56, 57, 100]);
         self.say(&[Name("sheet"), Number(length)]);
         if self.random.chance(50) {
@@ -163,7 +164,7 @@ impl Writer {
         }
     }
 
-    /// A sheet read, good or bad, and what became of the edition.
+    /// A sheet read, good or bad, and what became of edition and waits.
     fn load_and_show(&mut self) {
         self.load();
         self.show_full();
@@ -179,6 +180,7 @@ impl Writer {
             values::break_range(&mut self.random, &mut state);
         }
         state.edition = self.random.pick(&BROKEN_EDITIONS);
+        state.waits = self.some_waits();
         self.say(&[Name("full"), Hex(state.full().to_vec())]);
         for _ in 0..self.random.between(1, 4) {
             match self.random.below(8) {
@@ -189,18 +191,17 @@ impl Writer {
         }
     }
 
-    /// `full HEX` of a wrong length, or with a second byte that isn't 00.
+    /// `full HEX` of a wrong length.
     fn wrong_full(&mut self) {
         let mut state = values::state(&mut self.random, false);
         state.edition = self.random.pick(&[AM9517A, INTEL, 2]);
+        state.waits = self.some_waits();
         let mut bytes = state.full().to_vec();
-        match self.random.below(3) {
-            0 => bytes[1] = self.random.pick(&[1, 2, 0x80, 0xFF]),
-            1 => bytes.truncate(self.random.pick(&[0, 1, 2, 47, 48, FULL_LENGTH - 1])),
-            _ => {
-                let length = self.random.pick(&[1, 1, 2, 6, 50]);
-                bytes.extend(self.random.bytes(length));
-            }
+        if self.random.chance(50) {
+            bytes.truncate(self.random.pick(&[0, 1, 2, 47, 48, FULL_LENGTH - 1]));
+        } else {
+            let length = self.random.pick(&[1, 1, 2, 6, 50]);
+            bytes.extend(self.random.bytes(length));
         }
         self.say(&[Name("full"), Hex(bytes)]);
         self.show_full();

@@ -11,7 +11,7 @@ const READ_BLOCK: u8 = 0x88;
 const PIECE: usize = 64;
 
 impl Writer {
-    /// State with its edition, memory, room, write position and queue.
+    /// State with its edition and waits, memory, room, write position and queue.
     pub fn write_end(&mut self) {
         self.say_plainly("full");
         self.say_plainly(&format!("peek 0 {ARRAY_LENGTH}"));
@@ -48,7 +48,8 @@ impl Writer {
         }
     }
 
-    /// A service of channel 0 from address 0, count FFFFh, whatever edition was there before.
+    /// A service of channel 0 from address 0, count FFFFh, whatever edition and waits were there
+    /// before.
     fn open_long_service(&mut self, mode: u8) {
         let mut open = Controller::fresh();
         open.in_service = 1;
@@ -59,7 +60,7 @@ impl Writer {
 }
 
 /// Lines that bring a console whose queue is empty and whose memory is `memory` to its start.
-/// `fresh` brings edition 0 back.
+/// `fresh` brings edition 0 and waits 0 back.
 pub fn lines_between(memory: &[u8]) -> Vec<Line> {
     let mut lines = vec![plain("fresh"), plain("memory 65536"), plain("room 0 0")];
     let mut start = 0;

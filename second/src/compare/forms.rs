@@ -33,7 +33,7 @@ impl Writer {
         let small = Number(self.random.below(16));
         let byte = Number(u64::from(self.random.byte()));
         let bytes = Hex(self.random.bytes(2));
-        match self.random.below(20) {
+        match self.random.below(22) {
             0 => vec![Name("write"), small, byte],
             1 => vec![Name("read"), small],
             2 => vec![Name("pins"), small],
@@ -53,6 +53,7 @@ impl Writer {
             16 => vec![Name("full"), Hex(self.controller().full().to_vec())],
             17 => vec![Name("full")],
             18 => vec![Name("fresh"), Number(self.random.below(2))],
+            19..=20 => vec![Name("waits"), byte],
             _ => vec![Name("state"), bytes],
         }
     }

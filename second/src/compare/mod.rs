@@ -13,4 +13,5 @@ pub mod scenes;
 pub mod shrink;
 pub mod sides;
 pub mod values;
+pub mod waiting;
 pub mod writer;

@@ -2,6 +2,7 @@
 
 use super::random::Random;
 use super::values;
+use super::waiting::has_a_wide_round;
 use super::writer::{Hex, Name, Number, Script, Writer};
 use crate::protocol::to_hex;
 use crate::state::{Channel, Controller, Mode, Type};
@@ -15,16 +16,20 @@ pub fn write_script(seed: u64, number: u64, odd: bool) -> Script {
         return write_long_script(number);
     }
     let mut writer = Writer::new(Random::new(seed, number), odd);
-    writer.write_body();
+    writer.write_body(has_a_wide_round(number));
     writer.write_end();
     writer.finish(number)
 }
 
 impl Writer {
-    fn write_body(&mut self) {
+    fn write_body(&mut self, wide: bool) {
         self.budget = [2_500, 15_000, 210_000][self.random.weighted(&[80, 14, 6])];
         let length = self.random.between(6, 60) as usize;
         self.choose_editions();
+        self.choose_waits();
+        if wide {
+            self.wide_round();
+        }
         if self.random.chance(70) {
             self.prepare_memory_and_device();
         }
@@ -51,6 +56,9 @@ impl Writer {
         if self.has_lost_its_edition() && self.random.chance(25) {
             return self.change_edition();
         }
+        if self.has_lost_its_waits() && self.random.chance(25) {
+            return self.set_waits();
+        }
         if !self.controller().ranges_hold() {
             self.step_while_broken()
         } else if self.controller().in_service() {
@@ -71,8 +79,8 @@ impl Writer {
 
     fn step_in_service(&mut self) {
         // A cascade service only waits for its line to go.
-        let run = if self.waits_in_cascade() { 15 } else { 55 };
-        match self.random.weighted(&[run, 18, 10, 4, 3, 3, 8, 2, 3, 1, 2, 2, 3]) {
+        let run = if self.stays_in_cascade() { 15 } else { 55 };
+        match self.random.weighted(&[run, 18, 10, 4, 3, 3, 8, 2, 3, 1, 2, 2, 3, 3]) {
             0 => self.run(),
             1 => self.pins(),
             2 => self.device(),
@@ -85,11 +93,12 @@ impl Writer {
             9 => self.set_broken_state(),
             10 => self.lend_memory(),
             11 => self.clear_mask(),
-            _ => self.scene_of_editions(),
+            12 => self.scene_of_editions(),
+            _ => self.scene_of_waits(),
         }
     }
 
-    fn waits_in_cascade(&self) -> bool {
+    fn stays_in_cascade(&self) -> bool {
         let now = self.controller();
         let number = usize::from(now.serving & 3);
         now.channels[number].kind() == Mode::Cascade && !self.serves_a_pair()
@@ -97,7 +106,7 @@ impl Writer {
 
     fn step_idle(&mut self) {
         let scenes = [22, 13, 18, 16];
-        let others = [3, 6, 15, 8, 10, 6, 10, 2, 2, 4, 3, 5, 2, 6, 1, 14, 8];
+        let others = [3, 6, 15, 8, 10, 6, 10, 2, 2, 4, 3, 5, 2, 6, 1, 14, 8, 8];
         match self.random.weighted(&[&scenes[..], &others[..]].concat()) {
             0 => self.scene_of_one_service(),
             1 => self.scene_of_memory_to_memory(),
@@ -119,7 +128,8 @@ impl Writer {
             17 => self.any_operation(),
             18 => self.read_everything(),
             19 => self.scene_of_editions(),
-            _ => self.scene_of_eop(),
+            20 => self.scene_of_eop(),
+            _ => self.scene_of_waits(),
         }
     }
 
@@ -137,7 +147,7 @@ impl Writer {
 
     /// Any operation, whatever the state: most are refused.
     pub fn any_operation(&mut self) {
-        match self.random.below(10) {
+        match self.random.below(11) {
             0 => self.write_some_register(),
             1 => self.read_some_register(),
             2 => self.pins(),
@@ -147,6 +157,7 @@ impl Writer {
             6 => self.round(),
             7 => self.sheet(),
             8 => self.master_clear(),
+            9 => self.set_waits(),
             _ => self.fresh(),
         }
     }
@@ -505,11 +516,11 @@ impl Writer {
         self.say_state(state);
     }
 
-    /// A state made anew, in an edition of this script's.
+    /// A state made anew, in an edition and with waits of this script's.
     fn some_state(&mut self) -> Controller {
         let heavy = self.heavy();
         let state = values::state(&mut self.random, heavy);
-        Controller { edition: self.some_edition(), ..state }
+        Controller { edition: self.some_edition(), waits: self.some_waits(), ..state }
     }
 
     fn set_broken_state(&mut self) {
@@ -651,16 +662,17 @@ impl Writer {
 
 /// Scripts from this number on are the long ones, a fixed few.
 pub const FIRST_LONG: u64 = 1 << 40;
-pub const LONG_SCRIPTS: u64 = 2;
+pub const LONG_SCRIPTS: u64 = 3;
 
 /// Rounds of 4,096 services of 65,536 transfers: the greatest totals there are. In memory-to-memory
-/// it is a short pattern that is laid again and again.
+/// it is a short pattern that is laid again and again; the last one has the most waits, too.
 fn write_long_script(number: u64) -> Script {
     let mut writer = Writer::new(Random::new(0, 0), false);
     let mut state = Controller::fresh();
     state.mask = 0;
     state.pins = 1;
-    state.command = (number & 1) as u8;
+    state.command = u8::from(number != FIRST_LONG);
+    state.waits = if number == FIRST_LONG + 2 { 255 } else { 0 };
     for channel in &mut state.channels {
         channel.base_address = 1;
         channel.current_address = 1;
@@ -674,7 +686,7 @@ fn write_long_script(number: u64) -> Script {
         state.channels[0].current_count = 2;
     }
     writer.say_plainly("poke 1 0102030405");
-    writer.say_plainly(&format!("state {}", to_hex(&state.body())));
+    writer.say_plainly(&format!("full {}", to_hex(&state.full())));
     writer.say_plainly("round 4096");
     writer.write_end();
     writer.finish(number)

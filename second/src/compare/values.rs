@@ -37,6 +37,12 @@ pub fn count(random: &mut Random, heavy: bool) -> u16 {
     }
 }
 
+/// Wait states, most often at an end of the byte or of a half of it.
+pub fn waits(random: &mut Random) -> u8 {
+    let any = random.byte();
+    random.pick(&[0, 1, 1, 2, 3, 127, 128, 129, 254, 255, 255, any, any])
+}
+
 /// A mode byte the rules accept, bits 1-0 zero.
 pub fn mode(random: &mut Random) -> u8 {
     let kind = random.weighted(&[28, 22, 39, 11]) as u8;
@@ -76,7 +82,7 @@ fn four_bits(random: &mut Random) -> u8 {
     random.below(16) as u8
 }
 
-/// An Am9517A state that keeps every range, idle or in service.
+/// An Am9517A state without waits that keeps every range, idle or in service.
 pub fn state(random: &mut Random, heavy: bool) -> Controller {
     let mut state = Controller::fresh();
     for number in 0..4 {

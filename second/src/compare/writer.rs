@@ -38,13 +38,16 @@ pub struct Writer {
     pub budget: u64,
     /// Of a hundred states made anew, so many are of the Intel edition.
     pub intel: u64,
+    /// Of a hundred states made anew, so many have waits.
+    pub slow: u64,
     /// Send lines the protocol leaves open, too.
     pub odd: bool,
 }
 
 impl Writer {
     pub fn new(random: Random, odd: bool) -> Writer {
-        Writer { random, console: Console::new(), lines: Vec::new(), budget: 0, intel: 0, odd }
+        let console = Console::new();
+        Writer { random, console, lines: Vec::new(), budget: 0, intel: 0, slow: 0, odd }
     }
 
     pub fn finish(self, number: u64) -> Script {

@@ -450,13 +450,9 @@ fn a_sheet_read_is_an_am9517a() {
 fn fifty_bytes() {
     for edition in [0, 1, 2, 0xFF] {
         let now = full_of_values(edition);
-        let mut full = now.full();
+        let full = now.full();
         assert_eq!((full.len(), full[0], full[1]), (FULL_LENGTH, edition, 0));
         assert_eq!(full[2..], now.body());
-        assert_eq!(Controller::from_full(&full), Some(now));
-        for waits in [1, 0x80, 0xFF] {
-            full[1] = waits;
-            assert_eq!(Controller::from_full(&full), None);
-        }
+        assert_eq!(Controller::from_full(&full), now);
     }
 }

@@ -1,4 +1,4 @@
-//! The cases of document 01, its refusals, its list of errors, document 02's requests A1 and A2, and
+//! The cases of document 01, its refusals, its list of errors, document 02's requests A1 to A3, and
 //! the line protocol.
 
 mod cases;
@@ -9,6 +9,8 @@ mod editions;
 mod protocol;
 mod refusals;
 mod trade_errors;
+mod wait_lines;
+mod waits;
 
 use second::run::{Stop, Tally};
 use second::state::Controller;
