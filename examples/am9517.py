@@ -10,7 +10,7 @@ def struct(name, fields):
     return type(name, (ctypes.Structure,), {"_fields_": fields})
 
 
-NAMES = "tc request mask pins in_service serving latch_full latch lowest flip_flop edition temporary command"
+NAMES = "tc request mask pins in_service serving latch_full latch lowest flip_flop edition temporary command waits"
 AM9517A, INTEL_8237A = 0, 1  # editions
 REASONS = "refused ended dropped cascade limit short done quiet".split()
 Channel = struct("Channel", [*((n, c_uint16) for n in ("base_address", "address", "base_count", "count")), ("mode", c_uint8)])
@@ -19,7 +19,8 @@ Told = struct("Told", [("refusal", c_uint32), ("value", c_uint32)])
 Ran = struct("Ran", [("refusal", c_uint32), ("reason", c_uint32), ("transfers", c_uint64), ("used", c_size_t), ("written", c_size_t), ("states", c_uint64)])
 AREA = [c_char_p, c_size_t]
 CALLS = {"version": (c_uint32, []), "fresh": (Chip, [c_uint32]), "write": (c_uint32, [POINTER(Chip), c_uint32, c_uint8]),
-         "pins": (c_uint32, [POINTER(Chip), c_uint32]), "grant": (Told, [POINTER(Chip)]), "status": (Told, [POINTER(Chip)]),
+         "pins": (c_uint32, [POINTER(Chip), c_uint32]), "waits": (c_uint32, [POINTER(Chip), c_uint8]),
+         "grant": (Told, [POINTER(Chip)]), "status": (Told, [POINTER(Chip)]),
          "run": (Ran, [POINTER(Chip), *AREA, *AREA, *AREA, c_uint64, c_uint64])}
 
 
@@ -28,13 +29,14 @@ def ok(refusal):
         raise SystemExit("refused %d" % refusal)
 
 
-def main(path="libam9517.so.3"):
+def main(path="libam9517.so.4"):
     library = ctypes.CDLL(path)
     call = {name: ctypes.CFUNCTYPE(result, *arguments)(("am9517_" + name, library)) for name, (result, arguments) in CALLS.items()}
-    if call["version"]() // 10000 != 3:
+    if call["version"]() // 10000 != 4:
         raise SystemExit("%s is of another major version" % path)
-    assert ctypes.sizeof(Chip) == 54
+    assert ctypes.sizeof(Chip) == 54 and Chip.command.offset == 52 and Chip.waits.offset == 53
     chip, memory, holds = call["fresh"](AM9517A), ctypes.create_string_buffer(65536), bytes([1, 1, 0, 1, 1, 0, 0, 1, 1, 0, 1, 0xA7])
+    ok(call["waits"](byref(chip), 0))  # memory cards that hold no transfer
     for register, byte in [(0xD, 0), (0xB, 0x85), (0xC, 0), (2, 0), (2, 2), (3, 11), (3, 0), (0xA, 1)]:
         ok(call["write"](byref(chip), register, byte))
     ok(call["pins"](byref(chip), 2))

@@ -51,8 +51,8 @@ int main(void)
     run = am9517_run(&chip, memory, sizeof memory, holds, sizeof holds, NULL, 0, 65536, 0);
     if (refused("run", run.refusal))
         return 1;
-    printf("%s transfers=%u used=%u states=%u\n", am9517_reason_text(run.reason), (unsigned)run.transfers,
-           (unsigned)run.used, (unsigned)run.states);
+    printf("%s transfers=%u used=%u states=%lu\n", am9517_reason_text(run.reason), (unsigned)run.transfers,
+           (unsigned)run.used, (unsigned long)run.states);
     printf("memory at 0200h:");
     for (unsigned at = 0x0200; at < 0x0200 + sizeof holds; at++)
         printf(" %02x", memory[at]);

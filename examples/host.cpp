@@ -44,8 +44,8 @@ int main()
     const auto run = chip.run(memory, holds, {});
     if (refused("run", run))
         return 1;
-    std::printf("%s transfers=%u used=%u states=%u\n", am9517::text(run->reason), static_cast<unsigned>(run->transfers),
-                static_cast<unsigned>(run->used), static_cast<unsigned>(run->states));
+    std::printf("%s transfers=%u used=%u states=%lu\n", am9517::text(run->reason), static_cast<unsigned>(run->transfers),
+                static_cast<unsigned>(run->used), static_cast<unsigned long>(run->states));
     std::printf("memory at 0200h:");
     for (std::size_t at = 0x0200; at < 0x0200 + holds.size(); at++)
         std::printf(" %02x", static_cast<unsigned>(memory[at]));

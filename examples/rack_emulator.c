@@ -10,9 +10,9 @@
 
 enum { GAUGE = 1, TABLE = 0x0300, READINGS = 12, SLICE = 3 /* transfers that the bus is given away for */ };
 
-/* The part on the rack's board. AM9517_EDITION_INTEL_8237A is the other: form 1 can't store it, so the power cut below, refused
- * by 15, ends the emulator. */
-enum { PART = AM9517_EDITION_AM9517A };
+/* The part on the rack's board, and the wait states of its memory cards. Form 1 can't store the other part,
+ * AM9517_EDITION_INTEL_8237A, nor slow cards: the power cut below, refused by 15, then ends the emulator. */
+enum { PART = AM9517_EDITION_AM9517A, CARD_WAITS = 0 };
 
 /* ---- the device: readings come at their own pace, and wait in a queue until the chip takes them */
 
@@ -86,7 +86,7 @@ static void run_slice(struct rack *rack)
         return;
     gauge->waiting += run.used;
     gauge->queued -= run.used;
-    printf("  %s transfers=%u states=%u", am9517_reason_text(run.reason), (unsigned)run.transfers, (unsigned)run.states);
+    printf("  %s transfers=%u states=%lu", am9517_reason_text(run.reason), (unsigned)run.transfers, (unsigned long)run.states);
     printf("; next address %04x, count %04x\n", (unsigned)rack->chip.channels[GAUGE].address,
            (unsigned)rack->chip.channels[GAUGE].count);
 }
@@ -143,7 +143,7 @@ int main(void)
     rack.chip = am9517_fresh(PART);
     rack.gauge.waiting = readings;
     rack.gauge.ahead = sizeof readings;
-    if (!program_chip(&rack.chip))
+    if (refused("waits", am9517_waits(&rack.chip, CARD_WAITS)) || !program_chip(&rack.chip))
         return 1;
     for (unsigned i = 0; i < sizeof coming; i++) {
         tick(&rack, i + 1, coming[i]);

@@ -1,12 +1,12 @@
-/* am9517.h - one Am9517A or Intel 8237A DMA controller in software, as a C library. Version 3.0.0.
+/* am9517.h - one Am9517A or Intel 8237A DMA controller in software, as a C library. Version 4.0.0.
  *
  *     am9517_chip chip = am9517_fresh(AM9517_EDITION_AM9517A);
  *     uint32_t refusal = am9517_write(&chip, 0xb, 0x85);
  *     if (refusal != AM9517_OK)
  *         puts(am9517_refusal_text(refusal));
  *
- * Link with libam9517.a or libam9517.so.3. C99 or later, C++11 or later (am9517.hpp has a class for C++17). "Document 01"
- * is the rules of this controller, "One Am9517A in software: rules and limits", with what the landed requests A1 and A2 of
+ * Link with libam9517.a or libam9517.so.4. C99 or later, C++11 or later (am9517.hpp has a class for C++17). "Document 01"
+ * is the rules of this controller, "One Am9517A in software: rules and limits", with what the landed requests A1 to A3 of
  * document 02, "More requests from customers", change in them.
  *
  * PLATFORM. x86-64 Linux, the System V calling convention, 64-bit pointers: the library is machine code for it and for
@@ -17,19 +17,27 @@
  * THE CHIP is a struct that the caller owns, with the registers as fields: read them, show them, copy the struct, keep
  * many. A host may also set fields; a chip that is out of the ranges told beside the fields is refused by 1 instead of
  * running wild. A zeroed struct is within its ranges but not fresh (nothing is masked): begin with am9517_fresh. The struct
- * has 54 bytes and is aligned to 2. A byte of padding lies behind each `mode` and one at the end. Padding means nothing, need
- * not be 0 in a fresh chip and may change in a call: compare chips by their fields, not by memcmp.
+ * has 54 bytes and is aligned to 2. A byte of padding lies behind each `mode`. Padding means nothing, need not be 0 in a fresh
+ * chip and may change in a call: compare chips by their fields, not by memcmp.
  *
  * EDITIONS. A chip is an Am9517A or an Intel 8237A: am9517_fresh is told which, the field `edition` has it, reset and master
  * clear keep it. In an Intel chip a write of register E clears all four mask bits, where an Am9517A refuses it by 4; external
  * EOP sets the TC bit; and am9517_save refuses the chip by 15, for a sheet has no place for the edition. A sheet that is
  * loaded gives an Am9517A. All else is the same.
  *
+ * WAIT STATES. Slow memory cards hold READY low: each transfer then takes that many working states more, verify too, and one of
+ * memory-to-memory twice that. am9517_waits sets them, 0 to 255, in a chip of either edition, while it is idle; the field `waits`
+ * has them; a fresh chip has none; reset and master clear keep them. They change `states` and nothing else: transfers, bytes and
+ * registers stay as they are. A run says at most 33,947,648 states (65,536 transfers of 518), a round 139,049,566,208: more than
+ * 32 bits hold, so keep `states` in 64. A sheet has no place for them: am9517_save refuses a chip with waits by 15, and a sheet
+ * that is loaded gives a chip without.
+ *
  * REFUSALS. Each call but am9517_version, am9517_fresh and the two texts says a refusal number, 0 for none. Where several
  * hold it is the first in the order that stands with the call. A refused call changes no field of the chip and no byte of
  * memory, room or sheet, and the other numbers of its answer are 0. All numbers may be given in full: a register over 15, a
- * limit of 2^64 - 1 and the like have defined answers. A `byte` is uint8_t: C itself narrows what is given, so
- * am9517_write(&chip, 8, 0x110) writes 10h; ask before if the number may be larger.
+ * limit of 2^64 - 1 and the like have defined answers. A `byte`, and the `states` of am9517_waits, is uint8_t: C itself narrows
+ * what is given, so am9517_write(&chip, 8, 0x110) writes 10h and am9517_waits(&chip, 256) sets none; ask before if the number
+ * may be larger.
  *
  * AREAS are a pointer and a number of bytes. What one call is lent must not overlap: chip, memory, device, room or sheet
  * are different areas, and the compiler relies on it. (Two chips may share one memory, in calls one after the other.) A
@@ -47,9 +55,10 @@
  * pointers, no overlap, no race.
  *
  * VERSIONS. A new major number: a struct, a call or a number has changed, compile again. A new minor number: more calls; what was
- * compiled before runs on. Sheets outlive both: form 1 is document 01's. Version 2 had the one edition: no field for it, a
- * struct of 52 bytes, am9517_fresh(void), no refusal 15. Version 1 kept the state as a sheet and had am9517_copy; its calls
- * took the sheet where these take the chip.
+ * compiled before runs on. Sheets outlive both: form 1 is document 01's. Version 3 had no wait states: no field for them, so that
+ * `temporary` and `command` lay a byte further to the front, and no am9517_waits. Version 2 had the one edition: no field for
+ * it, a struct of 52 bytes, am9517_fresh(void), no refusal 15. Version 1 kept the state as a sheet and had am9517_copy; its
+ * calls took the sheet where these take the chip.
  */
 #ifndef AM9517_H
 #define AM9517_H
@@ -66,10 +75,10 @@
 extern "C" {
 #endif
 
-#define AM9517_VERSION_MAJOR 3
+#define AM9517_VERSION_MAJOR 4
 #define AM9517_VERSION_MINOR 0
 #define AM9517_VERSION_PATCH 0
-#define AM9517_VERSION 30000  /* major * 10000 + minor * 100 + patch */
+#define AM9517_VERSION 40000  /* major * 10000 + minor * 100 + patch */
 
 #define AM9517_SHEET_SIZE 56      /* bytes of a stored sheet, form 1 */
 #define AM9517_MEMORY_SIZE 65536  /* bytes of a memory: a run or a round takes no other number */
@@ -86,7 +95,7 @@ enum am9517_refusal {
     AM9517_OK = 0,
     AM9517_STATE_RANGE = 1,      /* a field of the chip is out of its range */
     AM9517_NUMBER = 2,           /* register over 15, pins over 15, or more than 4,096 services asked for */
-    AM9517_IN_SERVICE = 3,       /* register access, grant or round during a service */
+    AM9517_IN_SERVICE = 3,       /* register access, waits, grant or round during a service */
     AM9517_REGISTER = 4,         /* read of 9, A, B, C, E or F, or write of E in an Am9517A */
     AM9517_MODE = 5,             /* mode byte with bits 3-2 = 11 and bits 7-6 not 11 */
     AM9517_NOBODY = 6,           /* grant with no entitled channel */
@@ -98,7 +107,7 @@ enum am9517_refusal {
     AM9517_SHEET_DISTANCE = 12,  /* its distance from trailer to body is not 48 */
     AM9517_SHEET_SUM = 13,       /* its sum is not that of its 48 body bytes */
     AM9517_SHEET_RANGE = 14,     /* it is sealed, and breaks a range */
-    AM9517_SHEET_NO_PLACE = 15   /* form 1 has no place for the edition: an Intel chip can't be saved */
+    AM9517_SHEET_NO_PLACE = 15   /* form 1 has no place for edition and waits: no Intel chip and none with waits can be saved */
 };
 
 /* Why a run or a round stopped. */
@@ -122,7 +131,7 @@ typedef struct am9517_channel {
     uint8_t mode;      /* bits 1-0 are 0; bits 3-2 = 11 only where bits 7-6 = 11 */
 } am9517_channel;
 
-/* One chip: 54 bytes, aligned to 2; the last is padding. Idle means that `serving`, `latch_full` and `latch` are 0. */
+/* One chip: 54 bytes, aligned to 2. Idle means that `serving`, `latch_full` and `latch` are 0. */
 typedef struct am9517_chip {
     am9517_channel channels[4];
     uint8_t tc;          /* 0 to 15: bit n, channel n has reached TC (Intel: or met EOP) since register 8 was read */
@@ -138,6 +147,7 @@ typedef struct am9517_chip {
     uint8_t edition;     /* 0 Am9517A, 1 Intel 8237A: enum am9517_edition */
     uint8_t temporary;
     uint8_t command;
+    uint8_t waits;       /* any byte: wait states of each transfer, twice as many in memory-to-memory */
 } am9517_chip;
 
 /* A refusal, and the value where there is none. */
@@ -153,7 +163,7 @@ typedef struct am9517_run_told {
     uint64_t transfers;
     size_t used;         /* bytes of `device` used, from its start on */
     size_t written;      /* bytes of `room` written, from its start on */
-    uint64_t states;     /* working states */
+    uint64_t states;     /* working states, wait states among them: at most 33,947,648 */
 } am9517_run_told;
 
 /* How a round went: services begun per channel, and totals. */
@@ -164,7 +174,7 @@ typedef struct am9517_round_told {
     uint64_t transfers;
     size_t used;
     size_t written;
-    uint64_t states;
+    uint64_t states;     /* at most 139,049,566,208: more than 32 bits */
 } am9517_round_told;
 
 /* The structs lie as the library has them. C99 has no words for this; a build as C11 or C++11 asks. */
@@ -180,7 +190,8 @@ AM9517_HEADER_ASK_(sizeof(size_t) == 8);
 AM9517_HEADER_ASK_(sizeof(am9517_channel) == 10 && AM9517_HEADER_ALIGNED_(am9517_channel) == 2);
 AM9517_HEADER_ASK_(sizeof(am9517_chip) == 54 && AM9517_HEADER_ALIGNED_(am9517_chip) == 2);
 AM9517_HEADER_ASK_(offsetof(am9517_channel, mode) == 8 && offsetof(am9517_chip, tc) == 40);
-AM9517_HEADER_ASK_(offsetof(am9517_chip, edition) == 50 && offsetof(am9517_chip, command) == 52);
+AM9517_HEADER_ASK_(offsetof(am9517_chip, edition) == 50 && offsetof(am9517_chip, temporary) == 51);
+AM9517_HEADER_ASK_(offsetof(am9517_chip, command) == 52 && offsetof(am9517_chip, waits) == 53);
 AM9517_HEADER_ASK_(sizeof(am9517_told) == 8 && sizeof(am9517_run_told) == 40 && sizeof(am9517_round_told) == 56);
 #undef AM9517_HEADER_ASK_
 #undef AM9517_HEADER_ALIGNED_
@@ -189,9 +200,9 @@ AM9517_HEADER_ASK_(sizeof(am9517_told) == 8 && sizeof(am9517_run_told) == 40 && 
 /* AM9517_VERSION of the library that is linked: its major number must be the header's. */
 uint32_t am9517_version(void);
 
-/* A fresh chip of this edition (enum am9517_edition): all zero but the mask (15), the lowest channel (3) and the edition. A
- * number over 1 is no edition: the field `edition` has it, 255 for any over 255, and every call but am9517_load refuses the
- * chip by 1. */
+/* A fresh chip of this edition (enum am9517_edition): all zero, the wait states too, but the mask (15), the lowest channel (3)
+ * and the edition. A number over 1 is no edition: the field `edition` has it, 255 for any over 255, and every call but
+ * am9517_load refuses the chip by 1. */
 am9517_chip am9517_fresh(uint32_t edition);
 
 /* Says whether every field is in its range, and changes nothing. Refusals: 1. */
@@ -210,8 +221,13 @@ am9517_told am9517_read(am9517_chip *chip, uint32_t reg);
 /* Sets the four DREQ pins, bit n for channel n, also during a service. Refusals: 1, 2. */
 uint32_t am9517_pins(am9517_chip *chip, uint32_t levels);
 
-/* Resets, also during a service. Addresses, counts, modes, pins and edition stay. Refusals: 1. */
+/* Resets, also during a service. Addresses, counts, modes, pins, edition and wait states stay. Refusals: 1. */
 uint32_t am9517_reset(am9517_chip *chip);
+
+/* Sets the wait states, 0 to 255, of an idle chip: each transfer from now on takes that many working states more, one of
+ * memory-to-memory twice that. Nothing else changes. During a service it is refused, also with the number that the chip has.
+ * Refusals: 1, 3. */
+uint32_t am9517_waits(am9517_chip *chip, uint8_t states);
 
 /* Begins the service of the first entitled channel; the channel is `value`. Refusals: 1, 3, 6. */
 am9517_told am9517_grant(am9517_chip *chip);
@@ -229,7 +245,8 @@ am9517_told am9517_status(const am9517_chip *chip);
  * bytes from memory are put into `room`; room behind the last byte written isn't touched. After "limit" or "short" the
  * service is open: call again with device + used, room + written and what is left of them. Limit and EOP number count anew
  * in each call: a limit of 100 that stopped at 100 is spent, an EOP number beyond the transfers made is forgotten.
- * Refusals: 1, 7, 8. */
+ * `states`: a transfer takes 3, compressed 2, 1 more where the upper address byte is latched anew, and the wait states; one of
+ * memory-to-memory takes 8 and twice the wait states. Refusals: 1, 7, 8. */
 am9517_run_told am9517_run(am9517_chip *chip,
                            uint8_t *memory, size_t memory_size,
                            const uint8_t *device, size_t device_size,
@@ -239,7 +256,8 @@ am9517_run_told am9517_run(am9517_chip *chip,
 /* Begins up to `k` services (at most AM9517_ROUND_MOST, 4,096), each granted and run with a limit of 65,536 and no EOP, until
  * one doesn't end, k are begun or nobody is entitled. Each service is handed the device bytes not yet used and the room
  * behind the last byte written; a round stopped by "short" or "cascade" leaves its last service open, for am9517_run to go
- * on with. For more than 4,096 services call again with device + used and room + written. Refusals: 1, 2, 7, 3. */
+ * on with. For more than 4,096 services call again with device + used and room + written. `states` may pass 32 bits.
+ * Refusals: 1, 2, 7, 3. */
 am9517_round_told am9517_round(am9517_chip *chip,
                                uint8_t *memory, size_t memory_size,
                                const uint8_t *device, size_t device_size,
@@ -247,12 +265,12 @@ am9517_round_told am9517_round(am9517_chip *chip,
                                uint32_t k);
 
 /* Stores the chip as a sheet of form 1 in the last 56 bytes of `sheet`; bytes before them aren't touched. A chip in service
- * can be stored, and goes on after am9517_load. Memory and device are not part of it. Form 1 has no place for the edition: an
- * Intel chip is refused by 15. Refusals: 1, 9, 15. */
+ * can be stored, and goes on after am9517_load. Memory and device are not part of it. Form 1 has no place for edition and wait
+ * states: an Intel chip, and one whose `waits` is not 0, is refused by 15. Refusals: 1, 9, 15. */
 uint32_t am9517_save(const am9517_chip *chip, uint8_t *sheet, size_t size);
 
-/* Loads the chip from the sheet in the last 56 bytes of `sheet`. What the chip was plays no part: it is an Am9517A then, for
- * form 1 tells of no other. Refused, it stays, with its edition. Refusals: 9, 10, 11, 12, 13, 14. */
+/* Loads the chip from the sheet in the last 56 bytes of `sheet`. What the chip was plays no part: it is an Am9517A without wait
+ * states then, for form 1 tells of no other. Refused, it stays, with its edition and waits. Refusals: 9, 10, 11, 12, 13, 14. */
 uint32_t am9517_load(am9517_chip *chip, const uint8_t *sheet, size_t size);
 
 /* A refusal number in words, the rack console's (`help refusals`); there is a text for every number. */
@@ -262,7 +280,7 @@ static inline const char *am9517_refusal_text(uint32_t refusal)
     case 0: return "not refused";
     case 1: return "the state breaks a range of the sheet section";
     case 2: return "register number over 15, pins over 15, or more than 4,096 services asked for";
-    case 3: return "register access, grant or round during a service";
+    case 3: return "register access, waits, grant or round during a service";
     case 4: return "read of 9, A, B, C, E, F, or write of E in an Am9517A";
     case 5: return "mode byte with bits 3-2 = 11 and bits 7-6 not 11";
     case 6: return "grant with no entitled channel";
@@ -274,7 +292,7 @@ static inline const char *am9517_refusal_text(uint32_t refusal)
     case 12: return "sheet fault: distance";
     case 13: return "sheet fault: sum";
     case 14: return "sheet fault: range";
-    case 15: return "form 1 has no place for the edition";
+    case 15: return "form 1 has no place for edition and waits";
     default: return "no refusal has this number";
     }
 }

@@ -8,8 +8,8 @@
 //
 // Header only: link with the same library. Nothing here is proved; each method makes the one C call of its name, whose
 // contract stands in am9517.h, and none throws. A Chip is a value: copies are chips of their own. Its fields are those of the
-// C struct, read and set by fields(); the edition is one of them. A result has a value or a refusal; where it is refused its
-// value is all zero.
+// C struct, read and set by fields(); edition and wait states are among them. A result has a value or a refusal; where it is
+// refused its value is all zero.
 #ifndef AM9517_HPP
 #define AM9517_HPP
 
@@ -184,6 +184,8 @@ public:
     Result<std::uint8_t> read(std::uint32_t reg) noexcept { return byte(am9517_read(&chip_, reg)); }
     Result<void> pins(std::uint32_t levels) noexcept { return done(am9517_pins(&chip_, levels)); }
     Result<void> reset() noexcept { return done(am9517_reset(&chip_)); }
+    // Of each transfer from now on; fields().waits has them.
+    Result<void> waits(std::uint8_t states) noexcept { return done(am9517_waits(&chip_, states)); }
     // The channel granted.
     Result<std::uint8_t> grant() noexcept { return byte(am9517_grant(&chip_)); }
     // Bit n for channel n.
@@ -205,7 +207,7 @@ public:
         return {Refusal{told.refusal}, Round{Reason{told.reason}, services, told.transfers, told.used, told.written, told.states}};
     }
 
-    // Into, and from, the last 56 bytes: an Am9517A alone has a sheet, and what is loaded is one.
+    // Into, and from, the last 56 bytes: an Am9517A without wait states alone has a sheet, and what is loaded is one.
     Result<void> save(Bytes sheet) const noexcept { return done(am9517_save(&chip_, sheet.data(), sheet.size())); }
     Result<void> load(ConstBytes sheet) noexcept { return done(am9517_load(&chip_, sheet.data(), sheet.size())); }
 
@@ -226,7 +228,8 @@ public:
                 return false;
         return a.tc == b.tc && a.request == b.request && a.mask == b.mask && a.pins == b.pins && a.in_service == b.in_service
                && a.serving == b.serving && a.latch_full == b.latch_full && a.latch == b.latch && a.lowest == b.lowest
-               && a.flip_flop == b.flip_flop && a.edition == b.edition && a.temporary == b.temporary && a.command == b.command;
+               && a.flip_flop == b.flip_flop && a.edition == b.edition && a.waits == b.waits && a.temporary == b.temporary
+               && a.command == b.command;
     }
     friend bool operator!=(const Chip &left, const Chip &right) noexcept { return !(left == right); }
 

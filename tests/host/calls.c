@@ -1,10 +1,20 @@
 /* Every call with good and bad input: what it answers, what it leaves, and that a refusal leaves everything. All areas stand
- * between guard bytes; areas of 0 bytes are NULL as well. What both editions share is asked of both. What the same operations
- * answer in a script is compared by console.c; here stands what no script can say. */
+ * between guard bytes; areas of 0 bytes are NULL as well. What both editions share is asked of both, wait states too. What the
+ * same operations answer in a script is compared by console.c; here stands what no script can say. */
 #include <stdio.h>
 #include <string.h>
 
 #include "am9517.h"
+
+/* The chip's layout, asked of C99 as well: an array of -1 stops the compiler. */
+#define LIES(name, holds) typedef char lies_##name[(holds) ? 1 : -1]
+LIES(whole, sizeof(am9517_chip) == 54);
+LIES(channel, sizeof(am9517_channel) == 10 && offsetof(am9517_channel, mode) == 8);
+LIES(first, offsetof(am9517_chip, channels) == 0 && offsetof(am9517_chip, tc) == 40);
+LIES(edition, offsetof(am9517_chip, lowest) == 48 && offsetof(am9517_chip, flip_flop) == 49 && offsetof(am9517_chip, edition) == 50);
+LIES(waits, offsetof(am9517_chip, waits) == 53 && sizeof(((am9517_chip *)0)->waits) == 1);
+LIES(last, offsetof(am9517_chip, temporary) == 51 && offsetof(am9517_chip, command) == 52);
+LIES(states, sizeof(((am9517_run_told *)0)->states) == 8 && sizeof(((am9517_round_told *)0)->states) == 8);
 
 enum { SHEET = AM9517_SHEET_SIZE, MEMORY = AM9517_MEMORY_SIZE, ROOM = 16, GUARD = 32, WATCH = 0xc3 };
 
@@ -104,7 +114,7 @@ static void all_stay(const char *what, unsigned long which)
 
 /* ---- calls by number, so that each bad chip can be given to all of them: the refusal; other numbers must be 0 with it */
 
-enum { CALLS = 11, LOAD = 11 };
+enum { CALLS = 12, LOAD = 12 };
 
 static am9517_run_told run_all(uint64_t limit, uint64_t eop_at)
 {
@@ -151,6 +161,7 @@ static uint32_t call(int which)
     case 8: return run_alone(run_all(1, 0));
     case 9: return round_alone(round_all(1));
     case 10: return am9517_save(chip, at.sheet, sizeof at.sheet);
+    case 11: return am9517_waits(chip, 1);
     default: return am9517_load(chip, at.sheet, sizeof at.sheet);
     }
 }
@@ -165,6 +176,7 @@ static void out_of_range(const char *what)
     }
     expect(am9517_write(chip, 16, 0) == 1 && am9517_read(chip, 16).refusal == 1 && am9517_pins(chip, 16) == 1, what, 90);
     expect(am9517_write(chip, 14, 0) == 1 && am9517_read(chip, 14).refusal == 1, what, 95);
+    expect(am9517_waits(chip, 0) == 1 && am9517_waits(chip, 255) == 1 && am9517_waits(chip, chip->waits) == 1, what, 96);
     expect(am9517_run(chip, NULL, 0, NULL, 0, NULL, 0, 1, 0).refusal == 1, what, 91);
     expect(am9517_round(chip, NULL, 0, NULL, 0, NULL, 0, 5000).refusal == 1, what, 92);
     expect(am9517_save(chip, NULL, 0) == 1, what, 93);
@@ -184,9 +196,23 @@ static void ranged(uint8_t *field, unsigned most, const char *what)
     *field = kept;
 }
 
+/* Any byte is good there, idle and in service. */
+static void all_good(uint8_t *field, const char *what)
+{
+    const uint8_t kept = *field;
+    for (unsigned byte = 0; byte < 256; byte++) {
+        *field = (uint8_t)byte;
+        expect(am9517_check(chip) == AM9517_OK, what, byte);
+    }
+    *field = kept;
+}
+
 static void bad_chips(void)
 {
     begin();
+    all_good(&chip->waits, "waits");
+    all_good(&chip->temporary, "temporary byte");
+    all_good(&chip->command, "command");
     ranged(&chip->tc, 15, "TC bits");
     ranged(&chip->request, 15, "request bits");
     ranged(&chip->mask, 15, "mask bits");
@@ -196,6 +222,10 @@ static void bad_chips(void)
     ranged(&chip->edition, 1, "edition");
     chip->in_service = 1;
     ranged(&chip->edition, 1, "edition in service");
+    all_good(&chip->waits, "waits in service");
+    chip->waits = 255;
+    ranged(&chip->edition, 1, "edition in service with waits");
+    ranged(&chip->lowest, 3, "lowest in service with waits");
     ranged(&chip->in_service, 1, "in service");
     ranged(&chip->serving, 3, "serving");
     ranged(&chip->latch_full, 1, "latch full");
@@ -221,7 +251,7 @@ static void bad_chips(void)
 
 /* ---- fresh, version, texts */
 
-/* All zero but mask, lowest channel and edition. */
+/* All zero but mask, lowest channel and edition: so there are no wait states. */
 static int is_fresh(const am9517_chip *c, uint32_t of)
 {
     am9517_chip want;
@@ -258,9 +288,10 @@ static void texts(void)
     }
     expect(strcmp(am9517_refusal_text(16), am9517_refusal_text(0xffffffffu)) == 0, "no refusal", 0);
     expect(strcmp(am9517_reason_text(8), am9517_reason_text(0xffffffffu)) == 0, "no reason", 0);
+    expect(strcmp(am9517_refusal_text(3), "register access, waits, grant or round during a service") == 0, "the refusal of waits", 0);
     expect(strcmp(am9517_refusal_text(4), "read of 9, A, B, C, E, F, or write of E in an Am9517A") == 0, "the refusal of E", 0);
     expect(strcmp(am9517_refusal_text(14), "sheet fault: range") == 0, "the last fault of a sheet", 0);
-    expect(strcmp(am9517_refusal_text(15), "form 1 has no place for the edition") == 0, "the last refusal", 0);
+    expect(strcmp(am9517_refusal_text(15), "form 1 has no place for edition and waits") == 0, "the last refusal", 0);
     expect(strcmp(am9517_reason_text(7), "quiet") == 0, "the last reason", 0);
 }
 
@@ -782,9 +813,13 @@ static uint64_t told(am9517_told t)
     return (uint64_t)t.refusal << 32 | t.value;
 }
 
-/* One call on `chip`, folded into a number. E is not written, nothing is saved, and no run meets EOP. */
+/* What the last call counted. */
+static uint64_t any_transfers, any_states;
+
+/* One call on `chip`, its states aside, folded into a number. E is not written, nothing is saved, and no run meets EOP. */
 static uint64_t any_call(uint32_t which, uint32_t reg, uint8_t byte, uint32_t k)
 {
+    any_transfers = any_states = 0;
     switch (which) {
     case 0: return am9517_write(chip, reg == 14 ? 13 : reg, byte);
     case 1: return told(am9517_read(chip, reg));
@@ -796,11 +831,13 @@ static uint64_t any_call(uint32_t which, uint32_t reg, uint8_t byte, uint32_t k)
     case 7: {
         const am9517_round_told r = round_all(k);
         const uint64_t services = r.services[0] + 3 * (r.services[1] + 3 * (r.services[2] + 3 * (uint64_t)r.services[3]));
-        return r.refusal + 17 * r.reason + 97 * services + 1009 * r.transfers + 10007 * r.used + 100003 * r.written + 1000003 * r.states;
+        any_transfers = r.transfers, any_states = r.states;
+        return r.refusal + 17 * r.reason + 97 * services + 1009 * r.transfers + 10007 * r.used + 100003 * r.written;
     }
     default: {
         const am9517_run_told r = run_all(k, 0);
-        return r.refusal + 17 * r.reason + 1009 * r.transfers + 10007 * r.used + 100003 * r.written + 1000003 * r.states;
+        any_transfers = r.transfers, any_states = r.states;
+        return r.refusal + 17 * r.reason + 1009 * r.transfers + 10007 * r.used + 100003 * r.written;
     }
     }
 }
@@ -815,12 +852,13 @@ static void alike(void)
         const uint32_t which = drawn(12), reg = drawn(17), k = drawn(20);
         const uint8_t byte = (uint8_t)drawn(256);
         draw_chip(chip);
+        chip->waits = (uint8_t)drawn(256);
         before = at;
-        const uint64_t said = any_call(which, reg, byte, k);
+        const uint64_t said = any_call(which, reg, byte, k), states = any_states;
         after = at;
         at = before;
         chip->edition = AM9517_EDITION_INTEL_8237A;
-        expect(any_call(which, reg, byte, k) == said, "both editions say the same", which);
+        expect(any_call(which, reg, byte, k) == said && any_states == states, "both editions say the same", which);
         expect(chip->edition == AM9517_EDITION_INTEL_8237A, "the edition is kept", which);
         chip->edition = AM9517_EDITION_AM9517A;
         expect(same_chip(chip, &after.chip), "both editions leave the same chip", which);
@@ -830,7 +868,378 @@ static void alike(void)
     expect(guards(), "guards of both editions", 0);
 }
 
-/* ---- padding: the bytes behind the modes and at the end mean nothing */
+/* ---- wait states: the call */
+
+static const uint8_t some_waits[] = {0, 1, 2, 3, 127, 128, 254, 255};
+
+enum { SOME = sizeof some_waits };
+
+/* Every byte is refused by this number. */
+static void no_waits(uint32_t number, const char *what)
+{
+    before = at;
+    for (unsigned byte = 0; byte < 256; byte++)
+        expect(am9517_waits(chip, (uint8_t)byte) == number && same_chip(chip, &before.chip), what, byte);
+    all_stay(what, number);
+}
+
+/* Every byte over the waits that a chip has: nothing but the field changes. In service every one is refused. */
+static void waits_set(void)
+{
+    for (int i = 0; i < SOME; i++) {
+        begin();
+        chip->tc = chip->request = chip->pins = 15;
+        chip->command = chip->temporary = 0xff;
+        chip->flip_flop = 1;
+        for (int n = 0; n < 4; n++)
+            chip->channels[n] = channel_of(0x1234, 0x5678, 0x9abc, 0xdef0, 0xfc);
+        const am9517_chip start = *chip;
+        for (unsigned byte = 0; byte < 256; byte++) {
+            am9517_chip want = start;
+            *chip = start;
+            chip->waits = some_waits[i];
+            want.waits = (uint8_t)byte;
+            expect(am9517_waits(chip, (uint8_t)byte) == AM9517_OK && same_chip(chip, &want), "waits", byte);
+        }
+        expect(guards() && areas_stay(), "waits touched something else", some_waits[i]);
+        opened(0x84, 3);
+        chip->waits = some_waits[i];
+        no_waits(AM9517_IN_SERVICE, "waits in service");
+        chip->lowest = 4;
+        no_waits(AM9517_STATE_RANGE, "waits: 1 before 3");
+        chip->in_service = 0;
+        no_waits(AM9517_STATE_RANGE, "waits of a broken chip");
+    }
+    begin();
+    expect(am9517_waits(chip, (uint8_t)0x1ff) == AM9517_OK && chip->waits == 255, "a number of waits is narrowed", chip->waits);
+    expect(am9517_waits(chip, (uint8_t)256) == AM9517_OK && is_fresh(chip, edition), "256 are none", chip->waits);
+}
+
+/* Reset and master clear leave them, also in service; so do all writes and reads of registers. */
+static void waits_kept(void)
+{
+    for (int i = 0; i < SOME; i++) {
+        const uint8_t w = some_waits[i];
+        begin();
+        am9517_waits(chip, w);
+        am9517_chip want = *chip;
+        expect(am9517_reset(chip) == AM9517_OK && same_chip(chip, &want), "reset keeps the waits", chip->waits);
+        chip->command = chip->temporary = 0xff;
+        chip->tc = chip->request = 15;
+        chip->flip_flop = 1;
+        chip->mask = chip->lowest = 0;
+        expect(am9517_write(chip, 13, 0xff) == AM9517_OK && same_chip(chip, &want), "master clear keeps the waits", chip->waits);
+        for (uint32_t reg = 0; reg < 16; reg++)
+            for (unsigned byte = 0; byte < 256; byte += 17) {
+                am9517_write(chip, reg, (uint8_t)byte);
+                am9517_read(chip, reg);
+                expect(chip->waits == w && chip->edition == edition, "registers keep the waits", reg);
+            }
+        opened(0x84, 3);
+        chip->waits = w;
+        expect(am9517_reset(chip) == AM9517_OK && chip->waits == w && chip->in_service == 0, "reset in service, too", chip->waits);
+        expect(am9517_waits(chip, 9) == AM9517_OK && chip->waits == 9, "which leaves the chip idle", chip->waits);
+    }
+}
+
+/* ---- wait states: what they cost */
+
+/* Channel 0's service open by its line: this command, mode, address and count, with so many waits, which the call sets. */
+static void slow(uint8_t command, uint8_t mode, uint16_t address, uint16_t count, uint8_t w)
+{
+    begin();
+    chip->command = command;
+    chip->channels[0] = channel_of(0x4321, address, 9, count, mode);
+    chip->channels[1] = channel_of(0x4321, 0x2345, 9, count, 0x84);
+    chip->mask = 0;
+    chip->pins = command & 0x40 ? 14 : 1;
+    expect(am9517_waits(chip, w) == AM9517_OK && am9517_grant(chip).refusal == AM9517_OK && chip->serving == 0, "slow", w);
+    before = at;
+}
+
+static void took(am9517_run_told r, uint32_t reason, uint64_t transfers, uint64_t states, const char *what)
+{
+    expect(r.refusal == AM9517_OK && r.reason == reason && r.transfers == transfers, what, (unsigned long)r.transfers);
+    expect(r.states == states, what, (unsigned long)r.states);
+    expect(guards(), what, 0);
+}
+
+/* Each transfer of a service to, from or past memory takes 3 states, compressed 2, 1 with a new upper address byte, and w. */
+static void slow_services(uint8_t w)
+{
+    static const uint8_t ways[] = {0x00, 0x04, 0x08};  /* verify, write, read */
+    const uint64_t n = w;
+    for (int i = 0; i < 12; i++) {
+        const uint8_t way = (uint8_t)(ways[i % 3] | (i / 3 & 1 ? 0x10 : 0)), command = i / 6 ? 8 : 0;
+        const uint64_t one = (command ? 2 : 3) + n;
+        slow(command, 0x80 | way, 0x1234, 3, w);
+        took(run_all(9, 0), AM9517_REASON_ENDED, 4, 4 * one + 1, "block");
+        expect(chip->waits == w && chip->edition == edition, "a run keeps the waits", chip->waits);
+        slow(command, 0x80 | way, 0x12fe, 3, w);
+        took(run_all(9, 0), AM9517_REASON_ENDED, 4, 4 * one + 2, "block over a page's end");
+        slow(command, 0xa0 | way, 0x1201, 3, w);
+        took(run_all(9, 0), AM9517_REASON_ENDED, 4, 4 * one + 2, "block, down");
+        slow(command, way, 0x1234, 3, w);
+        took(run_all(9, 0), AM9517_REASON_ENDED, 4, 4 * one + 1, "demand");
+        slow(command, 0x40 | way, 0x1234, 3, w);
+        took(run_all(9, 0), AM9517_REASON_ENDED, 1, one + 1, "single");
+        slow(command, 0x80 | way, 0x1234, 3, w);
+        took(run_all(9, 2), AM9517_REASON_ENDED, 2, 2 * one + 1, "EOP at 2");
+        slow(command, 0x80 | way, 0x1234, 3, w);
+        took(run_all(0, 0), AM9517_REASON_LIMIT, 0, 0, "limit 0");
+        took(run_all(1, 0), AM9517_REASON_LIMIT, 1, one + 1, "cut at 1");
+        took(run_all(2, 0), AM9517_REASON_LIMIT, 2, 2 * one, "cut at 3");
+        took(run_all(9, 0), AM9517_REASON_ENDED, 1, one, "the last one");
+    }
+}
+
+/* What makes no transfer waits for nothing. */
+static void slow_nothing(uint8_t w)
+{
+    slow(0, 0xc0, 0x1234, 3, w);
+    took(run_all(9, 0), AM9517_REASON_CASCADE, 0, 0, "cascade");
+    slow(0, 0x04, 0x1234, 3, w);
+    took(am9517_run(chip, at.memory, MEMORY, NULL, 0, NULL, 0, 9, 0), AM9517_REASON_SHORT, 0, 0, "no device byte");
+    took(am9517_run(chip, at.memory, MEMORY, device, 2, NULL, 0, 9, 0), AM9517_REASON_SHORT, 2, 7 + 2 * (uint64_t)w, "two device bytes");
+    am9517_pins(chip, 0);
+    took(run_all(9, 0), AM9517_REASON_DROPPED, 0, 0, "dropped");
+    slow(0, 0x88, 0x1234, 3, w);
+    took(am9517_run(chip, at.memory, MEMORY, NULL, 0, NULL, 0, 9, 0), AM9517_REASON_SHORT, 0, 0, "no room");
+}
+
+/* Each transfer of memory-to-memory takes 8 and 2 w, whatever timing, hold, direction and page. */
+static void slow_copies(uint8_t w)
+{
+    static const uint8_t modes[] = {0x00, 0x44, 0x88, 0x98, 0xa8, 0xc0};
+    const uint64_t one = 8 + 2 * (uint64_t)w;
+    for (int i = 0; i < 24; i++) {
+        const uint8_t command = (uint8_t)(1 | (i / 6 & 1 ? 2 : 0) | (i / 12 ? 8 : 0)), mode = modes[i % 6];
+        slow(command, mode, 0x12fe, 4, w);
+        took(run_all(9, 0), AM9517_REASON_ENDED, 5, 5 * one, "copy");
+        expect(chip->waits == w && chip->tc == 2, "a copy keeps the waits", chip->waits);
+        slow(command, mode, 0x12fe, 4, w);
+        took(run_all(0, 0), AM9517_REASON_LIMIT, 0, 0, "copy, limit 0");
+        took(run_all(2, 0), AM9517_REASON_LIMIT, 2, 2 * one, "copy, cut");
+        took(run_all(9, 2), AM9517_REASON_ENDED, 2, 2 * one, "copy, EOP");
+    }
+    for (int n = 1; n < 4; n++) {  /* with command bit 0 the other channels' services are ordinary ones */
+        slow(0, 0x84, 0, 0, w);
+        took(run_all(9, 0), AM9517_REASON_ENDED, 1, 4 + (uint64_t)w, "before");
+        chip->command = 1;
+        chip->channels[n] = channel_of(0, 0x12fe, 0, 3, 0x84);
+        chip->pins = (uint8_t)(1u << n);
+        chip->mask = 0;
+        expect(am9517_grant(chip).value == (uint32_t)n, "another channel", (unsigned long)n);
+        took(run_all(9, 0), AM9517_REASON_ENDED, 4, 14 + 4 * (uint64_t)w, "beside memory-to-memory");
+    }
+}
+
+/* The longest runs. */
+static void slow_memory(uint8_t w)
+{
+    static uint8_t all[MEMORY];
+    const uint64_t n = w;
+    slow(0, 0x84, 0x1234, 0xffff, w);
+    took(am9517_run(chip, at.memory, MEMORY, all, MEMORY, NULL, 0, 65536, 0), AM9517_REASON_ENDED, 65536, 196865 + 65536 * n, "65,536 bytes");
+    slow(8, 0x80, 0x1200, 0xffff, w);
+    took(run_all(65536, 0), AM9517_REASON_ENDED, 65536, 131328 + 65536 * n, "65,536 verified, compressed");
+    slow(1, 0x88, 0x1234, 0xffff, w);
+    took(run_all(65536, 0), AM9517_REASON_ENDED, 65536, 524288 + 131072 * n, "65,536 copied");
+    expect(w != 255 || run_alone(run_all(1, 0)) == AM9517_NO_SERVICE, "and no more", w);
+}
+
+/* ---- wait states: rounds */
+
+/* The same services one by one: what they count is what the round counted. */
+static void one_by_one(am9517_round_told whole, uint32_t k, const char *what)
+{
+    uint64_t transfers = 0, states = 0;
+    size_t used = 0, written = 0;
+    uint32_t reason = AM9517_REASON_DONE, services = 0;
+    after = at;
+    at = before;
+    for (; services < k && reason == AM9517_REASON_DONE; services++) {
+        if (am9517_grant(chip).refusal == AM9517_NOBODY) {
+            reason = AM9517_REASON_QUIET;
+            break;
+        }
+        const am9517_run_told r = am9517_run(chip, at.memory, MEMORY, device + used, sizeof device - used, at.room + written, ROOM - written, 65536, 0);
+        transfers += r.transfers, states += r.states, used += r.used, written += r.written;
+        if (r.reason != AM9517_REASON_ENDED)
+            reason = r.reason;
+    }
+    expect(whole.services[0] + whole.services[1] + whole.services[2] + whole.services[3] == services, what, services);
+    expect(whole.reason == reason && whole.transfers == transfers && whole.used == used && whole.written == written, what, reason);
+    expect(whole.states == states, what, (unsigned long)states);
+    expect(same_chip(chip, &after.chip) && memcmp(at.memory, after.memory, sizeof at.memory) == 0, what, 0);
+}
+
+/* All channels in this mode, lines active, with so many waits. */
+static void slow_lines(uint8_t command, uint8_t mode, uint16_t count, uint8_t w)
+{
+    begin();
+    for (int n = 0; n < 4; n++)
+        chip->channels[n] = channel_of((uint16_t)(0x4000 * n), (uint16_t)(0x4000 * n), count, count, mode);
+    chip->command = command;
+    chip->mask = 0;
+    chip->pins = 15;
+    expect(am9517_waits(chip, w) == AM9517_OK, "lines", w);
+    before = at;
+}
+
+static void slow_rounds(uint8_t w)
+{
+    const uint64_t n = w;
+    am9517_round_told r;
+    slow_lines(0x10, 0x44, 9, w);
+    r = round_all(3);
+    expect(r.reason == AM9517_REASON_DONE && r.transfers == 3 && r.states == 3 * (4 + n), "single services", (unsigned long)r.states);
+    expect(chip->waits == w && chip->edition == edition && guards(), "a round keeps the waits", chip->waits);
+    slow_lines(0x18, 0x90, 9, w);
+    r = round_all(5);
+    expect(r.transfers == 50 && r.states == 5 * (10 * (2 + n) + 1), "verified blocks, compressed", (unsigned long)r.states);
+    slow_lines(0x01, 0x98, 9, w);
+    r = round_all(4);
+    expect(r.services[0] == 4 && r.transfers == 40 && r.states == 40 * (8 + 2 * n), "copies", (unsigned long)r.states);
+    slow_lines(0x11, 0x90, 9, w);
+    r = round_all(6);  /* channels 0 to 3, 0, 1: two services copy */
+    expect(r.services[0] == 2 && r.services[1] == 2 && r.transfers == 60, "copies and others", r.services[0]);
+    expect(r.states == 20 * (8 + 2 * n) + 4 * (10 * (3 + n) + 1), "copies and others", (unsigned long)r.states);
+    slow_lines(0x10, 0x94, 2, w);
+    r = round_all(9);  /* the fourth byte is the second service's first */
+    expect(r.reason == AM9517_REASON_SHORT && r.transfers == 4 && r.states == 2 + 4 * (3 + n), "a round cut short", (unsigned long)r.states);
+    slow_lines(0x10, 0xc0, 2, w);
+    r = round_all(9);
+    expect(r.reason == AM9517_REASON_CASCADE && r.states == 0, "a round in cascade", (unsigned long)r.states);
+}
+
+/* In all modes and commands, with 255 waits and with none. */
+static void rounds_of_services(void)
+{
+    static const uint8_t modes[] = {0x40, 0x44, 0x48, 0x80, 0x90, 0x94, 0x98, 0x50, 0x54, 0x00, 0x10, 0xb0};
+    for (int i = 0; i < 12; i++)
+        for (unsigned command = 0; command < 64; command++)
+            if (!(command & 4)) {
+                slow_lines((uint8_t)(command & 31), modes[i], (uint16_t)(i % 3), command < 32 ? 255 : 0);
+                const am9517_round_told r = round_all(7);
+                one_by_one(r, 7, "a round and its services");
+            }
+}
+
+/* 127 copies of all memory with 255 waits are the first to pass 32 bits; 4,096 are the most that is counted. */
+static void long_rounds(void)
+{
+    am9517_round_told r;
+    slow_lines(0x01, 0x98, 0xffff, 255);
+    chip->channels[1].address = chip->channels[1].base_address = 0x8000;
+    r = round_all(126);
+    expect(r.reason == AM9517_REASON_DONE && r.states == 4277403648u, "126 copies of all memory", (unsigned long)r.states);
+    r = round_all(127);
+    expect(r.reason == AM9517_REASON_DONE && r.transfers == 8323072, "127 copies of all memory", (unsigned long)r.transfers);
+    expect(r.states == (uint64_t)127 * 33947648 && r.states > 0xffffffffu, "more states than 32 bits hold", (unsigned long)r.states);
+    r = round_all(AM9517_ROUND_MOST);
+    expect(r.services[0] == 4096 && r.transfers == 268435456, "4,096 copies of all memory", (unsigned long)r.transfers);
+    expect(r.states == (uint64_t)4096 * 33947648, "139,049,566,208 states", (unsigned long)r.states);
+    expect(chip->waits == 255 && guards(), "guards of long rounds", 0);
+    slow_lines(0x10, 0x90, 0xffff, 255);
+    r = round_all(255);
+    expect(r.reason == AM9517_REASON_DONE && r.transfers == 16711680, "all memory verified 255 times", (unsigned long)r.transfers);
+    expect(r.states == (uint64_t)255 * 16908544 && r.states > 0xffffffffu, "more states than 32 bits hold, verified", (unsigned long)r.states);
+    slow_lines(0x11, 0x90, 0xffff, 255);
+    r = round_all(512);
+    expect(r.services[0] == 128 && r.services[3] == 128 && r.transfers == 33554432, "128 copies among others", (unsigned long)r.transfers);
+    expect(r.states == (uint64_t)128 * 33947648 + (uint64_t)384 * 16908544, "and their states", (unsigned long)r.states);
+}
+
+/* ---- wait states: sheets */
+
+/* A chip with waits has none: 1, 9, 15 in this order, and not a byte is written. */
+static void slow_sheets(void)
+{
+    for (unsigned w = 0; w < 256; w++) {
+        const uint32_t want = w == 0 && !intel() ? AM9517_OK : AM9517_SHEET_NO_PLACE;
+        begin();
+        am9517_waits(chip, (uint8_t)w);
+        before = at;
+        refused(am9517_save(chip, at.sheet, 55), AM9517_SHEET_SHORT, "save: 9 before the 15 of waits");
+        expect(am9517_save(chip, at.sheet, sizeof at.sheet) == want && same_chip(chip, &before.chip), "save of waits", w);
+        expect(areas_stay() == (want != AM9517_OK) && guards(), "a sheet of waits", w);
+    }
+    opened(0x84, 3);
+    chip->waits = 1;
+    before = at;
+    for (size_t size = 0; size <= sizeof at.sheet; size++)
+        refused(am9517_save(chip, at.sheet, size), size < SHEET ? AM9517_SHEET_SHORT : AM9517_SHEET_NO_PLACE, "save of waits in service");
+    chip->lowest = 4;
+    before = at;
+    refused(am9517_save(chip, at.sheet, 55), AM9517_STATE_RANGE, "save of waits: 1 before 9 and 15");
+    refused(am9517_save(chip, at.sheet, 56), AM9517_STATE_RANGE, "save of waits: 1 before 15");
+    begin();
+    am9517_waits(chip, 7);
+    am9517_waits(chip, 0);
+    expect(am9517_save(chip, at.sheet, SHEET) == (intel() ? AM9517_SHEET_NO_PLACE : AM9517_OK), "save where the waits are gone", 0);
+}
+
+/* A sheet tells of no waits, whatever the chip had; refused, it leaves them. */
+static void slow_loads(void)
+{
+    const am9517_chip fresh = am9517_fresh(AM9517_EDITION_AM9517A);
+    for (int i = 0; i < SOME; i++) {
+        begin();
+        am9517_waits(chip, some_waits[i]);
+        am9517_save(&fresh, at.sheet, sizeof at.sheet);
+        before = at;
+        refused(am9517_load(chip, at.sheet, 55), AM9517_SHEET_SHORT, "a short sheet leaves the waits");
+        at.sheet[4 + 52] ^= 1;
+        before = at;
+        refused(call(LOAD), AM9517_SHEET_SUM, "a bad sheet leaves the waits");
+        at.sheet[4 + 52] ^= 1;
+        expect(call(LOAD) == AM9517_OK && same_chip(chip, &fresh), "a sheet has no waits", some_waits[i]);
+        expect(am9517_save(chip, at.sheet, sizeof at.sheet) == AM9517_OK, "so what was loaded can be saved", 0);
+    }
+}
+
+/* ---- wait states: all else is the same, in random calls on chips that differ in the waits alone */
+
+static void as_fast(void)
+{
+    edition = AM9517_EDITION_AM9517A;
+    begin();
+    for (size_t i = 0; i < MEMORY; i++)
+        at.memory[i] = (uint8_t)(i * 31 + i / 253);
+    for (unsigned turn = 0; turn < 1000; turn++) {
+        const uint32_t which = drawn(12), reg = drawn(17), k = drawn(20);
+        const uint8_t byte = (uint8_t)drawn(256);
+        uint64_t more = 0;  /* states of one wait state */
+        draw_chip(chip);
+        chip->edition = (uint8_t)drawn(2);
+        chip->waits = 0;
+        before = at;
+        const int copies = (chip->command & 1) != 0, copy = copies && chip->serving == 0 && which > 7;
+        const uint64_t said = any_call(which, reg, byte, k), states = any_states, transfers = any_transfers;
+        after = at;
+        for (int i = 0; i < 3; i++) {
+            const uint8_t w = (uint8_t)(i < 2 ? (uint32_t)i + 1 : drawn(256));
+            at = before;
+            chip->waits = w;
+            expect(any_call(which, reg, byte, k) == said && any_transfers == transfers, "a slow chip says the same", which);
+            more = i == 0 ? any_states - states : more;
+            expect(any_states == states + w * more, "and takes so many states for each wait state", (unsigned long)any_states);
+            expect(chip->waits == w, "the waits are kept", chip->waits);
+            chip->waits = 0;
+            expect(same_chip(chip, &after.chip), "a slow chip is left as a fast one", which);
+            expect(memcmp(at.memory, after.memory, sizeof at.memory) == 0 && memcmp(at.room, after.room, sizeof at.room) == 0,
+                   "a slow chip leaves the same bytes", which);
+        }
+        if (which == 7 && copies)
+            expect(transfers <= more && more <= 2 * transfers, "a wait state of a round", (unsigned long)more);
+        else
+            expect(more == (copy ? 2 : 1) * transfers, "a wait state of a transfer", (unsigned long)more);
+    }
+    expect(guards(), "guards of slow chips", 0);
+}
+
+/* ---- padding: the bytes behind the modes mean nothing */
 
 static void pad(am9517_chip *c, int byte)
 {
@@ -872,21 +1281,23 @@ static void padding(void)
 
 /* ---- looking calls write nothing: these chips lie where a write ends the program */
 
-#define STILL(edition) \
-    {{{1, 2, 3, 4, 0x84}, {5, 6, 7, 8, 0x44}, {9, 10, 11, 12, 0}, {13, 14, 15, 16, 0xc0}}, 1, 0, 14, 3, 1, 0, 1, 0x12, 2, 0, edition, 0x5a, 0x10}
-static const am9517_chip still[2] = {STILL(AM9517_EDITION_AM9517A), STILL(AM9517_EDITION_INTEL_8237A)};
+#define STILL(edition, waits) \
+    {{{1, 2, 3, 4, 0x84}, {5, 6, 7, 8, 0x44}, {9, 10, 11, 12, 0}, {13, 14, 15, 16, 0xc0}}, 1, 0, 14, 3, 1, 0, 1, 0x12, 2, 0, edition, waits, 0x5a, 0x10}
+static const am9517_chip still[4] = {STILL(AM9517_EDITION_AM9517A, 0), STILL(AM9517_EDITION_INTEL_8237A, 0), STILL(AM9517_EDITION_AM9517A, 255),
+                                     STILL(AM9517_EDITION_INTEL_8237A, 1)};
 
 static void looks(void)
 {
     static const uint8_t body[48] = {1, 0, 2, 0, 3, 0, 4, 0, 0x84, 5, 0, 6, 0, 7, 0, 8, 0, 0x44, 9, 0, 10, 0, 11, 0, 12, 0, 0, 13, 0,
                                      14, 0, 15, 0, 16, 0, 0xc0, 0x10, 1, 0, 14, 0x5a, 0, 3, 2, 1, 0, 1, 0x12};
     begin();
-    for (int i = 0; i < 2; i++) {
+    for (int i = 0; i < 4; i++) {
         expect(am9517_check(&still[i]) == AM9517_OK, "check of a constant", 0);
         expect(am9517_entitled(&still[i]).value == 1, "entitled of a constant", am9517_entitled(&still[i]).value);
         expect(am9517_status(&still[i]).value == 0x31, "status of a constant", am9517_status(&still[i]).value);
     }
-    expect(am9517_save(&still[1], at.sheet + 4, SHEET) == AM9517_SHEET_NO_PLACE && areas_stay(), "no save of an Intel constant", 0);
+    for (int i = 1; i < 4; i++)
+        expect(am9517_save(&still[i], at.sheet + 4, SHEET) == AM9517_SHEET_NO_PLACE && areas_stay(), "no save of such a constant", (unsigned long)i);
     expect(am9517_save(&still[0], at.sheet + 4, SHEET) == AM9517_OK, "save of a constant", 0);
     expect(memcmp(at.sheet + 4, body, sizeof body) == 0, "the sheet's layout", 0);
     expect(am9517_load(chip, at.sheet + 4, SHEET) == AM9517_OK && same_chip(chip, &still[0]), "and back", 0);
@@ -910,6 +1321,18 @@ static void of_edition(uint32_t which)
     eops();
     copies();
     edition_kept();
+    waits_set();
+    waits_kept();
+    for (int i = 0; i < SOME; i++) {
+        slow_services(some_waits[i]);
+        slow_nothing(some_waits[i]);
+        slow_copies(some_waits[i]);
+        slow_memory(some_waits[i]);
+        slow_rounds(some_waits[i]);
+    }
+    rounds_of_services();
+    slow_sheets();
+    slow_loads();
     padding();
 }
 
@@ -921,7 +1344,9 @@ int main(void)
     for (uint32_t was = 0; was < 4; was++)
         loaded_over(was < 3 ? was : 0xffffffffu);
     alike();
+    as_fast();
     edition = AM9517_EDITION_AM9517A;
+    long_rounds();
     texts();
     saved();
     loaded();

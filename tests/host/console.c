@@ -1,9 +1,10 @@
 /* The rack console's line protocol, spoken through the C library: what the comparer plays against.
  *
- * `state BYTES` sets the chip's fields, whatever their ranges, and leaves its edition; `full BYTES` sets this, too; `state` and
- * `full` show them; `sheet` and `load` are the library's. The chip stands between guard bytes. After each command what the
- * looking calls say is held to what the operations say of a copy, and a chip in its ranges must come back whole out of its
- * own sheet; an Intel chip, which has none, must be refused by 15, and as an Am9517A come back out of that one's. */
+ * `state BYTES` sets the chip's fields, whatever their ranges, and leaves its edition and waits; `full BYTES` sets these, too;
+ * `state` and `full` show them; `sheet` and `load` are the library's. The chip stands between guard bytes. After each command
+ * what the looking calls say is held to what the operations say of a copy, and a chip in its ranges must come back whole out of
+ * its own sheet; an Intel chip or one with waits, which has none, must be refused by 15, and as an Am9517A without waits come
+ * back out of that one's. */
 #include <stdio.h>
 #include <stdlib.h>
 #include <string.h>
@@ -109,21 +110,21 @@ static void get_body(am9517_chip *c, uint8_t *body)
         body[36 + i] = *field(c, i);
 }
 
-/* Edition and waits, of which there are none yet, then the body. */
+/* Edition and waits, then the body. */
 static void get_full(am9517_chip *c, uint8_t *full)
 {
     full[0] = c->edition;
-    full[1] = 0;
+    full[1] = c->waits;
     get_body(c, full + 2);
 }
 
-/* An Intel chip has no sheet, and not a byte is written; nor has it one in too few bytes. */
-static void look_at_intel(void)
+/* An Intel chip, or one with waits, has no sheet, and not a byte is written; nor has it one in too few bytes. */
+static void look_at_no_sheet(void)
 {
     uint8_t sheet[AM9517_SHEET_SIZE];
     memset(sheet, 0x5a, sizeof sheet);
     if (am9517_save(chip, sheet, sizeof sheet) != AM9517_SHEET_NO_PLACE)
-        fail("an Intel chip is stored");
+        fail("an Intel chip or one with waits is stored");
     if (am9517_save(chip, sheet, sizeof sheet - 1) != AM9517_SHEET_SHORT)
         fail("15 comes before 9");
     for (size_t i = 0; i < sizeof sheet; i++)
@@ -131,14 +132,17 @@ static void look_at_intel(void)
             fail("a refused sheet was written");
 }
 
-/* The sheet of an Am9517A of the chip's fields has them in their places and gives them back, over a chip of either edition. */
+/* The sheet of an Am9517A of the chip's fields, without waits, has them in their places and gives them back, over a chip of
+ * either edition with waits or without. */
 static void look_at_sheet(void)
 {
     uint8_t sheet[AM9517_SHEET_SIZE], mine[FULL], theirs[FULL];
     am9517_chip copy = *chip, other = am9517_fresh(chip->edition);
-    if (chip->edition != AM9517_EDITION_AM9517A)
-        look_at_intel();
+    if (chip->edition != AM9517_EDITION_AM9517A || chip->waits != 0)
+        look_at_no_sheet();
     copy.edition = AM9517_EDITION_AM9517A;
+    copy.waits = 0;
+    other.waits = chip->waits;
     get_full(&copy, mine);
     if (am9517_save(&copy, sheet, sizeof sheet) != AM9517_OK || memcmp(sheet, mine + 2, BODY) != 0)
         fail("the sheet is not the chip's");
@@ -149,6 +153,22 @@ static void look_at_sheet(void)
         fail("the chip is another out of its sheet");
 }
 
+/* A copy takes other waits exactly while it is idle, and nothing else of it changes. */
+static void look_at_waits(uint32_t wrong)
+{
+    uint8_t mine[FULL], theirs[FULL];
+    am9517_chip copy = *chip;
+    const uint8_t other = (uint8_t)(chip->waits + 1);
+    const uint32_t want = wrong != AM9517_OK ? wrong : chip->in_service ? AM9517_IN_SERVICE : AM9517_OK;
+    get_full(chip, mine);
+    if (am9517_waits(&copy, other) != want)
+        fail("waits and the chip differ");
+    get_full(&copy, theirs);
+    mine[1] = want == AM9517_OK ? other : chip->waits;
+    if (memcmp(mine, theirs, FULL) != 0)
+        fail("waits set something else");
+}
+
 /* What the looking calls say, held to what the operations say of a copy. */
 static void look(void)
 {
@@ -156,6 +176,7 @@ static void look(void)
     const am9517_told entitled = am9517_entitled(chip), status = am9517_status(chip);
     if (entitled.refusal != wrong || status.refusal != wrong)
         fail("two calls see different chips");
+    look_at_waits(wrong);
     if (wrong != AM9517_OK)
         return;
     look_at_sheet();
@@ -270,9 +291,10 @@ static int command_state(void)
 
 static int command_full(void)
 {
-    if (!hex(words[1]) || given_size != FULL || given[1] != 0)
+    if (!hex(words[1]) || given_size != FULL)
         return 0;
     chip->edition = given[0];
+    chip->waits = given[1];
     set_body(chip, given + 2);
     say("ok\n");
     return 1;
@@ -304,6 +326,15 @@ static int command_pins(void)
     if (!small(1, WORD, &levels))
         return 0;
     done(am9517_pins(chip, (uint32_t)levels));
+    return 1;
+}
+
+static int command_waits(void)
+{
+    uint64_t states;
+    if (!small(1, 255, &states))
+        return 0;
+    done(am9517_waits(chip, (uint8_t)states));
     return 1;
 }
 
@@ -499,6 +530,7 @@ static int obey(void)
            : is("write", 3)  ? command_write()
            : is("read", 2)   ? command_read()
            : is("pins", 2)   ? command_pins()
+           : is("waits", 2)  ? command_waits()
            : is("grant", 1)  ? command_grant()
            : is("memory", 2) ? command_memory()
            : is("poke", 3)   ? command_poke()

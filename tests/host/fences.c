@@ -72,6 +72,7 @@ static uint16_t word(void)
 static void draw_chip(am9517_chip *chip)
 {
     *chip = am9517_fresh(drawn(64) == 0 ? 2 : drawn(4) / 3);
+    chip->waits = (uint8_t)(drawn(2) ? drawn(256) : 0);
     for (int n = 0; n < 4; n++) {
         am9517_channel *c = &chip->channels[n];
         c->base_address = c->address = word();
@@ -114,6 +115,7 @@ static uint64_t call(int fenced, const struct numbers *n)
         const am9517_round_told t = am9517_round(c, m, memory.size, d, device.size, r, room.size, n->k);
         return t.refusal + t.reason + t.transfers + 3 * t.used + 5 * t.written + 7 * t.states;
     }
+    case 8: return am9517_waits(c, n->byte);
     default: {
         const am9517_run_told t = am9517_run(c, m, memory.size, d, device.size, r, room.size, n->limit, n->eop);
         return t.refusal + t.reason + t.transfers + 3 * t.used + 5 * t.written + 7 * t.states;
@@ -121,7 +123,7 @@ static uint64_t call(int fenced, const struct numbers *n)
     }
 }
 
-/* By fields: the byte behind a channel's first nine is padding, and so is that behind the command. */
+/* By fields: the byte behind a channel's first nine is padding. */
 static int same_chip(void)
 {
     const size_t tc = offsetof(am9517_chip, tc);
@@ -133,10 +135,10 @@ static int same_chip(void)
 
 static int turn(uint32_t i)
 {
-    const struct numbers n = {drawn(12), drawn(17), drawn(20), (uint8_t)drawn(256), drawn(4) ? 65536 : drawn(50), drawn(4) ? 0 : drawn(50)};
+    const struct numbers n = {drawn(13), drawn(17), drawn(20), (uint8_t)drawn(256), drawn(4) ? 65536 : drawn(50), drawn(4) ? 0 : drawn(50)};
     am9517_chip now;
     draw_chip(&now);
-    if (n.which == 7 && drawn(8) != 0)
+    if ((n.which == 7 || n.which == 8) && drawn(8) != 0)
         now.in_service = now.serving = 0;
     const uint32_t even = 2 * drawn(8);
     memcpy(chip.free + even, &now, sizeof now);

@@ -1,5 +1,5 @@
-/* Several threads at once: each with a chip, of either edition, and a memory of its own, which must end as alone; and all
- * looking at one chip. */
+/* Several threads at once: each with a chip, of either edition and with changing waits, and a memory of its own, which must end as
+ * alone; and all looking at one chip. */
 #include <pthread.h>
 #include <stdio.h>
 #include <stdlib.h>
@@ -9,7 +9,7 @@
 enum { THREADS = 4, STEPS = 400 };
 
 static const am9517_chip shared = {
-    {{1, 2, 3, 4, 0x84}, {5, 6, 7, 8, 0x44}, {9, 10, 11, 12, 0}, {13, 14, 15, 16, 0xc0}}, 1, 0, 14, 3, 1, 0, 1, 0x12, 2, 0, 0, 0x5a, 0x10};
+    {{1, 2, 3, 4, 0x84}, {5, 6, 7, 8, 0x44}, {9, 10, 11, 12, 0}, {13, 14, 15, 16, 0xc0}}, 1, 0, 14, 3, 1, 0, 1, 0x12, 2, 0, 0, 0, 0x5a, 0x10};
 
 struct job {
     uint32_t seed;
@@ -41,10 +41,11 @@ static uint64_t step(am9517_chip *chip, uint8_t *memory, uint32_t *seed)
 {
     static const uint8_t device[64] = {1, 2, 3};
     uint8_t room[64];
-    switch (drawn(seed) % 4) {
+    switch (drawn(seed) % 5) {
     case 0: return am9517_write(chip, drawn(seed) % 16, (uint8_t)drawn(seed));
     case 1: return am9517_pins(chip, drawn(seed) % 16);
     case 2: return am9517_grant(chip).value;
+    case 3: return am9517_waits(chip, (uint8_t)drawn(seed));
     default: {
         const am9517_run_told run = am9517_run(chip, memory, AM9517_MEMORY_SIZE, device, sizeof device, room, sizeof room, 40, 0);
         if (run.refusal == AM9517_NO_SERVICE)

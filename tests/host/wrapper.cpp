@@ -22,6 +22,7 @@ static_assert(!std::is_convertible_v<const std::vector<std::uint8_t> &, Bytes>, 
 static_assert(!std::is_convertible_v<std::vector<int> &, Bytes>, "ints are no bytes");
 static_assert(std::is_convertible_v<Bytes, ConstBytes> && !std::is_convertible_v<ConstBytes, Bytes>, "one way");
 static_assert(noexcept(std::declval<Chip &>().run({}, {}, {})) && noexcept(Chip()) && noexcept(Chip(Edition::am9517a)), "nothing throws");
+static_assert(noexcept(std::declval<Chip &>().waits(1)) && sizeof(am9517::Run::states) == 8 && sizeof(am9517::Round::states) == 8, "states in 64 bits");
 static_assert(!std::is_convertible_v<Edition, Chip> && !std::is_convertible_v<int, Edition>, "an edition is no chip, a number no edition");
 
 static unsigned checks, wrong;
@@ -92,7 +93,7 @@ static void editions()
     expect(chip.save(Bytes(record.data(), 55)).refusal() == Refusal::sheet_short, "9 before 15");
     const auto none = chip.sheet();
     expect(!none && none.refusal() == Refusal::sheet_no_place && none.value() == am9517::Sheet{}, "none by itself");
-    expect(std::strcmp(none.text(), "form 1 has no place for the edition") == 0, "its text");
+    expect(std::strcmp(none.text(), "form 1 has no place for edition and waits") == 0, "its text");
     expect(chip.load(other.sheet().value()).ok() && chip == other, "a sheet makes an Am9517A");
     chip.fields().edition = 2;
     expect(chip.check().refusal() == Refusal::state_range && Chip(Edition{7}).check().refusal() == Refusal::state_range, "no edition");
@@ -132,6 +133,32 @@ static void runs()
     expect(intel.run(memory, {}, room, am9517::no_limit, 3)->written == 3 && intel.fields().tc == 1, "EOP at 3 sets the TC bit");
 }
 
+static void waits()
+{
+    static am9517::Memory memory;
+    Chip chip, copier(Edition::intel_8237a);
+    expect(chip.waits(255).ok() && chip.fields().waits == 255 && chip != Chip(), "waits tell chips apart");
+    const Chip slow = chip;
+    expect(chip.reset().ok() && chip == slow && chip.write(13, 0).ok() && chip == slow, "reset and master clear keep them");
+    const auto none = chip.sheet();
+    expect(none.refusal() == Refusal::sheet_no_place && none.value() == am9517::Sheet{}, "no sheet of waits");
+    expect(chip.load(Chip().sheet().value()).ok() && chip == Chip(), "a sheet has none");
+    chip = opened(0x80);
+    const Chip busy = chip;
+    expect(chip.waits(0).refusal() == Refusal::in_service && chip == busy, "waits in service");
+    chip.fields().lowest = 4;
+    expect(chip.waits(0).refusal() == Refusal::state_range, "1 before 3");
+    chip = opened(0x80);
+    chip.fields().waits = 7;
+    expect(chip.run(memory, {}, {})->states == 13 + 4 * 7, "four transfers verified");
+    copier.fields().mask = 14;
+    copier.fields().channels[0].mode = copier.fields().channels[1].mode = 0x98;
+    copier.fields().channels[1].base_count = copier.fields().channels[1].count = 0xffff;
+    expect(copier.write(8, 1).ok() && copier.pins(1).ok() && copier.waits(255).ok(), "set up");
+    const auto round = copier.round(memory, {}, {}, 127);
+    expect(round.ok() && round->transfers == 127u * 65536 && round->states == std::uint64_t{127} * 65536 * 518, "states beyond 32 bits");
+}
+
 static void rounds()
 {
     static am9517::Memory memory;
@@ -162,6 +189,7 @@ int main()
     registers();
     editions();
     runs();
+    waits();
     rounds();
     sheets();
     std::printf("%u checks of the wrapper, %u wrong\n", checks, wrong);
