@@ -4,7 +4,7 @@
 #include "works.h"
 
 /* Families of works, behind those of harness.c. */
-enum { C_NOTHING = 7, C_WRITE, C_READ, C_PINS, C_RESET, C_GRANT, C_CHECK, C_ENTITLED, C_STATUS, C_FRESH, C_SAVE, C_LOAD, C_RUN, C_ROUND, C_OVER };
+enum { C_NOTHING = 7, C_WRITE, C_READ, C_PINS, C_RESET, C_GRANT, C_CHECK, C_ENTITLED, C_STATUS, C_FRESH, C_SAVE, C_LOAD, C_RUN, C_ROUND, C_WAITS, C_OVER };
 
 #define CALLS_OF(side) \
     u32 side##_check(const am9517_chip *); \
@@ -12,6 +12,7 @@ enum { C_NOTHING = 7, C_WRITE, C_READ, C_PINS, C_RESET, C_GRANT, C_CHECK, C_ENTI
     am9517_told side##_read(am9517_chip *, u32); \
     u32 side##_pins(am9517_chip *, u32); \
     u32 side##_reset(am9517_chip *); \
+    u32 side##_waits(am9517_chip *, u8); \
     am9517_told side##_grant(am9517_chip *); \
     am9517_told side##_entitled(const am9517_chip *); \
     am9517_told side##_status(const am9517_chip *); \
@@ -29,6 +30,7 @@ struct calls {
     am9517_told (*read)(am9517_chip *, u32);
     u32 (*pins)(am9517_chip *, u32);
     u32 (*reset)(am9517_chip *);
+    u32 (*waits)(am9517_chip *, u8);
     am9517_told (*grant)(am9517_chip *);
     am9517_told (*entitled)(const am9517_chip *);
     am9517_told (*status)(const am9517_chip *);
@@ -40,8 +42,8 @@ struct calls {
 };
 
 #define ALL_OF(side) \
-    {side##_check, side##_write, side##_read, side##_pins, side##_reset, side##_grant, side##_entitled, side##_status, side##_fresh, \
-     side##_save, side##_load, side##_run, side##_round}
+    {side##_check, side##_write, side##_read, side##_pins, side##_reset, side##_waits, side##_grant, side##_entitled, side##_status, \
+     side##_fresh, side##_save, side##_load, side##_run, side##_round}
 
 static const struct calls CALLS[2] = {ALL_OF(am9517), ALL_OF(plain_am9517)};
 
@@ -82,6 +84,7 @@ static u64 do_call(int family, int side, const am9517_chip *start, am9517_chip *
     case C_READ: TURNS(told_sum(c->read(chip, g->reg)))
     case C_PINS: TURNS(c->pins(chip, g->byte))
     case C_RESET: TURNS(c->reset(chip))
+    case C_WAITS: TURNS(c->waits(chip, g->byte))
     case C_GRANT: TURNS(told_sum(c->grant(chip)))
     case C_CHECK: TURNS(c->check(chip))
     case C_ENTITLED: TURNS(told_sum(c->entitled(chip)))

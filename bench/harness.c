@@ -82,9 +82,10 @@ static u64 do_c_work(const struct work *w, u64 times, u8 *sheet)
     struct given g = {w->reg, w->k, (u8)w->byte, device, memory, room, sheet, LENT, 65536, LENT, 56, 65536, 0};
     am9517_chip start = am9517_fresh(AM9517_EDITION_AM9517A), chip = start;
     am9517_load(&start, sheet, 56);
-    if (w->family < C_RUN) start.edition = (u8)w->k;
+    if (is_run(w) || is_round(w)) start.waits = (u8)w->byte;
+    else start.edition = (u8)w->k;
     u64 sum = do_call(w->family, w->side, &start, &chip, &g, times);
-    chip.edition = AM9517_EDITION_AM9517A; /* a sheet has no place for another */
+    chip.edition = AM9517_EDITION_AM9517A, chip.waits = 0; /* a sheet has no place for others */
     am9517_save(&chip, sheet, 56);
     return sum;
 }
@@ -316,7 +317,7 @@ static int differs(void)
            memcmp(outcomes[0].memory, outcomes[1].memory, 65537) || memcmp(outcomes[0].room, outcomes[1].room, 8192);
 }
 
-/* By fields: the byte behind a channel's mode is padding, and so is that behind the command. */
+/* By fields: the byte behind a channel's mode is padding. */
 static int same_chip(const am9517_chip *a, const am9517_chip *b)
 {
     for (int n = 0; n < 4; n++)
@@ -346,7 +347,8 @@ static u64 random_eop(const am9517_chip *c)
     }
 }
 
-/* One random call of the C library on both sides, on a chip of either edition, at times of none; 0 where they agree. */
+/* One random call of the C library on both sides, on a chip of either edition, at times of none, with waits or without; 0 where
+   they agree. */
 static int call_differs(void)
 {
     int family = C_WRITE + (int)random_below(C_OVER - C_WRITE), open = random_below(8) ? family == C_RUN : family != C_RUN;
@@ -356,6 +358,7 @@ static int call_differs(void)
     put_random_state(sheet, open);
     am9517_load(&start, sheet, 56);
     start.edition = (u8)(random_below(32) ? random_below(2) : random_below(256));
+    start.waits = (u8)(random_below(2) ? random_below(256) : 0);
     if (random_below(4) == 0) ((u8 *)&start)[random_below(sizeof start)] ^= (u8)(1u << random_below(8));
     sheet[random_below(56)] ^= (u8)(random_below(3) ? 0 : 1u << random_below(8));
     struct given g = {random_number(), random_below(9) ? random_below(30) : random_near(4096), (u8)random_below(random_below(2) ? 17 : 256), device, 0, 0, 0,

@@ -1,4 +1,4 @@
-/* A plain model of document 01, with requests A1 and A2 of document 02, in C: one transfer after the other, each rule where
+/* A plain model of document 01, with requests A1 to A3 of document 02, in C: one transfer after the other, each rule where
    the document has it. It is the measure that the proved controller is held to; bench/check compares the two. plain.c has the
    works over it, plain_calls.c the calls of the C library by pointer; all take the struct of am9517.h. */
 #include "am9517.h"
@@ -214,14 +214,14 @@ static enum reason copy_service(am9517_chip *c, u8 *memory, u64 limit, u64 eop_a
         over = counted_down(c, 1, 1, made == eop_at);
     }
     total->transfers += made;
-    total->states += 8 * made;
+    total->states += (8 + 2ul * c->waits) * made;
     return over ? ENDED : LIMIT;
 }
 
-/* A transfer's working states; the upper address byte is latched where it is new. */
+/* A transfer's working states, its wait states among them; the upper address byte is latched where it is new. */
 static u32 cost(am9517_chip *c, u16 address)
 {
-    u32 states = bit(c->command, 3) ? 2 : 3;
+    u32 states = (bit(c->command, 3) ? 2u : 3u) + c->waits;
     if (c->latch_full && c->latch == address >> 8) return states;
     c->latch_full = 1;
     c->latch = (u8)(address >> 8);
@@ -310,7 +310,7 @@ static u32 sum_of(const u8 *body)
     return sum;
 }
 
-/* The state that a sheet's body tells, whatever its ranges: an Am9517A, for it has no place for the edition. */
+/* The state that a sheet's body tells, whatever its ranges: an Am9517A without waits, for it has no place for either. */
 static am9517_chip fields_in(const u8 *sheet)
 {
     am9517_chip c;
@@ -321,7 +321,7 @@ static am9517_chip fields_in(const u8 *sheet)
     }
     c.command = b[0], c.tc = b[1], c.request = b[2], c.mask = b[3], c.temporary = b[4], c.flip_flop = b[5];
     c.pins = b[6], c.lowest = b[7], c.in_service = b[8], c.serving = b[9], c.latch_full = b[10], c.latch = b[11];
-    c.edition = AM9517_EDITION_AM9517A;
+    c.edition = AM9517_EDITION_AM9517A, c.waits = 0;
     return c;
 }
 

@@ -37,6 +37,14 @@ u32 CALL(reset)(am9517_chip *chip)
     return 0;
 }
 
+u32 CALL(waits)(am9517_chip *chip, u8 states)
+{
+    if (!valid(chip)) return 1;
+    if (chip->in_service) return 3;
+    chip->waits = states;
+    return 0;
+}
+
 am9517_told CALL(grant)(am9517_chip *chip)
 {
     if (!valid(chip)) return (am9517_told){1, 0};
@@ -86,7 +94,7 @@ u32 CALL(save)(const am9517_chip *chip, u8 *sheet, usize size)
 {
     if (!valid(chip)) return 1;
     if (size < AM9517_SHEET_SIZE) return 9;
-    if (intel(chip)) return 15;
+    if (intel(chip) || chip->waits) return 15;
     write_sheet(chip, sheet + size - AM9517_SHEET_SIZE);
     return 0;
 }
