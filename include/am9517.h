@@ -55,10 +55,10 @@
  * pointers, no overlap, no race.
  *
  * VERSIONS. A new major number: a struct, a call or a number has changed, compile again. A new minor number: more calls; what was
- * compiled before runs on. Sheets outlive both: form 1 is document 01's. Version 3 had no wait states: no field for them, so that
- * `temporary` and `command` lay a byte further to the front, and no am9517_waits. Version 2 had the one edition: no field for
- * it, a struct of 52 bytes, am9517_fresh(void), no refusal 15. Version 1 kept the state as a sheet and had am9517_copy; its
- * calls took the sheet where these take the chip.
+ * compiled before runs on. Sheets outlive both: form 1 is document 01's. Version 3 had no wait states: the chip's last byte
+ * was padding, and there was no am9517_waits. Version 2 had the one edition: no field for it, a struct of 52 bytes,
+ * am9517_fresh(void), no refusal 15. Version 1 kept the state as a sheet and had am9517_copy; its calls took the sheet where
+ * these take the chip.
  */
 #ifndef AM9517_H
 #define AM9517_H

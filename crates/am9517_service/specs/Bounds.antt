@@ -6,7 +6,7 @@ use Prim.Native.Nat.{ℕ, _+_, _*_}
 abbrev pub mostWaits : ℕ
 mostWaits = 255
 
--- the states of a transfer: a normal one without S1, and one of memory-to-memory
+-- the states of a transfer, by States: a normal one without S1 (`pace`), and one of memory-to-memory (`copyPace`)
 abbrev pub mostPace : ℕ
 mostPace = 3 + mostWaits
 

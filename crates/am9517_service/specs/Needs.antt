@@ -8,13 +8,14 @@ use Rattle.words.specs.Spans.{Within}
 use Rattle.am9517.specs.Modes.{decrement}
 use Rattle.am9517.specs.declared.Channel.{Channel}
 use Rattle.am9517_service.specs.declared.copies.Route.{Route}
+use Rattle.am9517_service.specs.Bounds.{mostTransfers}
 use Rattle.am9517_service.specs.Transfer.{writes, reads}
 use Rattle.am9517_service.specs.ClosedCopies.{sourceOn}
 
 -- bytes and room for n transfers
 pub record Stocked (ch : Channel) (m d r : List ℕ) (n : ℕ) : Type 0 where
   pub memory : length m ≡ 65536
-  pub most : n ≤ 65536
+  pub most : n ≤ mostTransfers
   pub bytes : writes ch ≡ true → n ≤ length d
   pub space : reads ch ≡ true → n ≤ length r
 

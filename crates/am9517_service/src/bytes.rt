@@ -13,13 +13,14 @@ ghost use Rattle.words.specs.Choice.{when};
 ghost use Rattle.words.specs.Steps.{steps};
 ghost use Rattle.words.specs.Spans.{spread};
 ghost use Rattle.am9517.specs.Modes.{decrement};
+ghost use Rattle.am9517_service.specs.Bounds.{mostTransfers};
 ghost use Rattle.am9517_service.specs.Transfer.{writes, reads};
 ghost use Rattle.am9517_service.specs.ClosedLegs.{stored, loaded};
 ghost use Rattle.am9517_service.specs.Needs.{Stocked};
 
 // The bytes of n transfers of a write.
 pub(crate) fn bring(mode: u8, address: u16, memory: &mut [u8], device: &[u8], n: usize)
-    requires { ⌜ (length (now memory) ≡ 65536) × (n ≤ 65536) × (n ≤ length (now device)) ⌝ }
+    requires { ⌜ (length (now memory) ≡ 65536) × (n ≤ mostTransfers) × (n ≤ length (now device)) ⌝ }
     ensures { λ _. ⌜ now (memory .exit) ≡ spread (steps 16 (decrement mode) address) (λ (j : ℕ). j) (now (device .entry)) (now (memory .entry)) n ⌝ }
 {
     let at = address as usize;
@@ -32,7 +33,7 @@ pub(crate) fn bring(mode: u8, address: u16, memory: &mut [u8], device: &[u8], n:
 
 // The bytes of n transfers of a read.
 pub(crate) fn fetch(mode: u8, address: u16, memory: &[u8], room: &mut [u8], n: usize)
-    requires { ⌜ (length (now memory) ≡ 65536) × (n ≤ 65536) × (n ≤ length (now room)) ⌝ }
+    requires { ⌜ (length (now memory) ≡ 65536) × (n ≤ mostTransfers) × (n ≤ length (now room)) ⌝ }
     ensures { λ _. ⌜ now (room .exit) ≡ spread (λ (j : ℕ). j) (steps 16 (decrement mode) address) (now (memory .entry)) (now (room .entry)) n ⌝ }
 {
     let at = address as usize;

@@ -21,6 +21,7 @@ ghost use lib.ListN.{length};
 ghost use Rattle.words.specs.Choice.{when};
 ghost use Rattle.words.specs.Steps.{steps};
 ghost use Rattle.words.specs.Spans.{least, carried};
+ghost use Rattle.am9517_service.specs.Bounds.{mostTransfers};
 ghost use Rattle.am9517_service.specs.Copy.{sourceAfter};
 ghost use Rattle.am9517_service.specs.ClosedCopies.{sourceOn, restored, restores, carriedAlong, carriedBy, straightOf, farther, begun, beginningAgain, routeOf, copyLegOf, lastByte};
 ghost use Rattle.am9517_service.specs.Needs.{Straight, Again};
@@ -74,7 +75,7 @@ fn restored(source: Channel) -> Channel
 
 // Channel 0 after n transfers. Narrow numbers are divided: the loop of rounds is dearer with wide ones.
 fn source_after(hold: bool, source: Channel, n: u64) -> Channel
-    requires { ⌜ n ≤ 65536 ⌝ }
+    requires { ⌜ n ≤ mostTransfers ⌝ }
     ensures { λ r. ⌜ r ≡ sourceAfter hold source n ⌝ }
 {
     let first = source.count as u64 + 1;
@@ -140,7 +141,7 @@ fn farther(route: Route, n: u64) -> Route
 
 // The bytes of n transfers that don't restore channel 0, piece by piece.
 fn carry_all(route: Route, memory: &mut [u8], n: u64)
-    requires { ⌜ (length (now memory) ≡ 65536) × (n ≤ 65536) ⌝ }
+    requires { ⌜ (length (now memory) ≡ 65536) × (n ≤ mostTransfers) ⌝ }
     ensures { λ _. ⌜ now (memory .exit) ≡ carriedAlong route (now (memory .entry)) n ⌝ }
 {
     let mut here = route;
@@ -229,7 +230,7 @@ fn beginning_again(route: Route, n: u64) -> Route
 
 // The bytes of n transfers, of which one before the last restores channel 0: up to there, and from there on again and again.
 fn carry_restoring(source: Channel, target: Channel, hold: bool, memory: &mut [u8], n: u64)
-    requires { ⌜ (length (now memory) ≡ 65536) × (n ≤ 65536) × (restores source n ≡ true) ⌝ }
+    requires { ⌜ (length (now memory) ≡ 65536) × (n ≤ mostTransfers) × (restores source n ≡ true) ⌝ }
     ensures { λ _. ⌜ now (memory .exit) ≡ carriedBy (routeOf hold source target) (now (memory .entry)) n ⌝ }
 {
     let first = source.count as usize + 1;
@@ -251,7 +252,7 @@ pub(crate) fn copy_leg(
     n: u64,
     eop_at: u64,
 ) -> Copied
-    requires { ⌜ (0 < n) × (n ≤ 65536) ⌝ }
+    requires { ⌜ (0 < n) × (n ≤ mostTransfers) ⌝ }
     ensures { λ r. ⌜ r ≡ copyLegOf edition source target b hold n «eop_at» ⌝ }
 {
     let over = (n == target.count as u64 + 1) | (n == eop_at);
@@ -276,7 +277,7 @@ pub(crate) fn copy_bytes(
     memory: &mut [u8],
     n: u64,
 ) -> u8
-    requires { ⌜ (length (now memory) ≡ 65536) × (0 < n) × (n ≤ 65536) ⌝ }
+    requires { ⌜ (length (now memory) ≡ 65536) × (0 < n) × (n ≤ mostTransfers) ⌝ }
     ensures { λ r. ⌜ r ≡ lastByte (routeOf hold source target) (now (memory .entry)) n ⌝ }
     ensures memory { λ r. ⌜ now (memory .exit) ≡ carriedBy (routeOf hold source target) (now (memory .entry)) n ⌝ }
 {

@@ -11,7 +11,7 @@ use words::choice::when;
 use words::choice::when_word;
 ghost use mathlib.Core.Path.{_≡_};
 ghost use Prim.Native.Nat.{_≤_, _<_};
-ghost use Rattle.am9517_service.specs.Bounds.{mostPace};
+ghost use Rattle.am9517_service.specs.Bounds.{mostPace, mostTransfers};
 ghost use Rattle.am9517_service.specs.Ends.{setsTcBit, bitsAfter, channelAfter};
 ghost use Rattle.am9517_service.specs.ClosedLegs.{legOf};
 
@@ -69,7 +69,7 @@ pub(crate) fn leg_of(
     n: u64,
     eop_at: u64,
 ) -> Leg
-    requires { ⌜ (0 < n) × (n ≤ 65536) × (pace ≤ mostPace) ⌝ }
+    requires { ⌜ (0 < n) × (n ≤ mostTransfers) × (pace ≤ mostPace) ⌝ }
     ensures { λ r. ⌜ r ≡ legOf edition i ch b first pace n «eop_at» ⌝ }
 {
     let mut left = current_after(ch, n);

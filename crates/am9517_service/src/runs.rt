@@ -181,7 +181,7 @@ fn after_copy(c: Controller, i: usize, l: Copied, byte: u8, stays: bool) -> Cont
 
 // The leg of the open service of channel i.
 fn open_leg(c: Controller, i: usize, ch: Channel, n: u64, eop_at: u64) -> Leg
-    requires { ⌜ (0 < n) × (n ≤ 65536) ⌝ }
+    requires { ⌜ (0 < n) × (n ≤ mostTransfers) ⌝ }
     ensures { λ r. ⌜ r ≡ legOf (c .edition) i ch (bitsOf c) (needsS1 c (ch .address)) (pace (c .command) (c .waits)) n «eop_at» ⌝ }
 {
     let first = needs_s1(c.latch_full, c.latch, ch.address);

@@ -9,7 +9,7 @@ ghost use mathlib.Core.Bool.{not, _||_};
 ghost use Prim.Native.Nat.{_≤_, _<_};
 ghost use lib.Dec.{eqb};
 ghost use Rattle.words.specs.Bytes.{highByte};
-ghost use Rattle.am9517_service.specs.Bounds.{mostPace};
+ghost use Rattle.am9517_service.specs.Bounds.{mostPace, mostTransfers};
 ghost use Rattle.am9517_service.specs.ClosedLegs.{addressAfter, currentAfter, entered, statesOf};
 
 // An address and a count are of 16 bits: told of a record that was taken out of an array.
@@ -36,7 +36,7 @@ pub(crate) fn current_after(ch: Channel, n: u64) -> Channel
 
 // The pages entered by n steps from an address.
 fn entered(down: bool, address: u16, n: u64) -> u64
-    requires { ⌜ n ≤ 65536 ⌝ }
+    requires { ⌜ n ≤ mostTransfers ⌝ }
     ensures { λ r. ⌜ (r ≡ entered down address n) × (r ≤ 257) ⌝ }
 {
     let place = address as u64 % 256;
@@ -52,7 +52,7 @@ pub(crate) fn needs_s1(latch_full: u8, latch: u8, address: u16) -> bool
 
 // The working states of n transfers at this pace, the first with S1 or without.
 pub(crate) fn states_of(ch: Channel, pace: u64, first: bool, n: u64) -> u64
-    requires { ⌜ (0 < n) × (n ≤ 65536) × (pace ≤ mostPace) ⌝ }
+    requires { ⌜ (0 < n) × (n ≤ mostTransfers) × (pace ≤ mostPace) ⌝ }
     ensures { λ r. ⌜ r ≡ statesOf ch pace first n ⌝ }
 {
     let pages = entered(decrement(ch.mode), ch.address, n - 1);

@@ -99,7 +99,7 @@ fn of_waits(out: &mut [u8], at: usize, waits: u8) -> usize {
     text(
         out,
         next,
-        b" states: full tells them, waits 0 takes them away\n",
+        b" states: full tells them, waits 0 while idle takes them away\n",
     )
 }
 

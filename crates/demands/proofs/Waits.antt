@@ -77,4 +77,4 @@ module _ (s : Controller) (m d r : List ℕ) (k : ℕ) where
       go false = both (close (beginning s m r) (round.Refused n)) (close (beginning (waiting 0 s) m r) (round.Refused n)) refl
 
 pub slow-cards : SlowCards
-slow-cards = record { set = set-when-idle; kept = waits-kept; run = ran-slow; round = rounded-slow }
+slow-cards = record { fresh = λ e. refl; set = set-when-idle; kept = waits-kept; run = ran-slow; round = rounded-slow }

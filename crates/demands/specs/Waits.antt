@@ -6,6 +6,7 @@ use mathlib.Core.List.{List}
 use Rattle.words.specs.Choice.{when}
 use Rattle.am9517.specs.Fields as fields
 use Rattle.am9517.specs.Fields.{put}
+use Rattle.am9517.specs.State.{fresh}
 use Rattle.am9517.specs.Ranges.{valid}
 use Rattle.am9517.specs.Answers.{waitsOf}
 use Rattle.am9517.specs.declared.Answer.the-variants.{Done}
@@ -44,6 +45,8 @@ unhurried g =
     (g .memory) (g .room)
 
 pub record SlowCards : Type 0 where
+  -- A fresh state has none.
+  pub fresh : (edition : ℕ) → fresh edition .waits ≡ 0
   -- "set by its own call when idle": an idle state in its ranges has them from then on, and nothing else of it changes,
   pub set : (s : Controller) (n : ℕ) → valid s ≡ true → s .«in_service» ≡ 0 → waitsOf s n ≡ record { controller = waiting n s; answer = Done }
   -- "and unchanged by reset", and by all else but the reading of a sheet, which gives 0 (Sheets `readWaits`).
