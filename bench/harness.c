@@ -322,7 +322,7 @@ static int same_chip(const am9517_chip *a, const am9517_chip *b)
 {
     for (int n = 0; n < 4; n++)
         if (memcmp(&a->channels[n], &b->channels[n], offsetof(am9517_channel, mode) + 1) != 0) return 0;
-    return memcmp(&a->tc, &b->tc, offsetof(am9517_chip, command) + 1 - offsetof(am9517_chip, tc)) == 0;
+    return memcmp(&a->tc, &b->tc, offsetof(am9517_chip, waits) + 1 - offsetof(am9517_chip, tc)) == 0;
 }
 
 /* Registers, E often, and editions that a fresh chip is asked for. */

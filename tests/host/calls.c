@@ -96,7 +96,7 @@ static int same_chip(const am9517_chip *p, const am9517_chip *q)
     for (int n = 0; n < 4; n++)
         if (!same_channel(&p->channels[n], &q->channels[n]))
             return 0;
-    return memcmp(&p->tc, &q->tc, offsetof(am9517_chip, command) + 1 - offsetof(am9517_chip, tc)) == 0;
+    return memcmp(&p->tc, &q->tc, offsetof(am9517_chip, waits) + 1 - offsetof(am9517_chip, tc)) == 0;
 }
 
 static int areas_stay(void)
@@ -1252,7 +1252,7 @@ static void pad(am9517_chip *c, int byte)
         c->channels[n].count = fields.channels[n].count;
         c->channels[n].mode = fields.channels[n].mode;
     }
-    memcpy(&c->tc, &fields.tc, offsetof(am9517_chip, command) + 1 - offsetof(am9517_chip, tc));
+    memcpy(&c->tc, &fields.tc, offsetof(am9517_chip, waits) + 1 - offsetof(am9517_chip, tc));
 }
 
 static void padding(void)
@@ -1282,7 +1282,7 @@ static void padding(void)
 /* ---- looking calls write nothing: these chips lie where a write ends the program */
 
 #define STILL(edition, waits) \
-    {{{1, 2, 3, 4, 0x84}, {5, 6, 7, 8, 0x44}, {9, 10, 11, 12, 0}, {13, 14, 15, 16, 0xc0}}, 1, 0, 14, 3, 1, 0, 1, 0x12, 2, 0, edition, waits, 0x5a, 0x10}
+    {{{1, 2, 3, 4, 0x84}, {5, 6, 7, 8, 0x44}, {9, 10, 11, 12, 0}, {13, 14, 15, 16, 0xc0}}, 1, 0, 14, 3, 1, 0, 1, 0x12, 2, 0, edition, 0x5a, 0x10, waits}
 static const am9517_chip still[4] = {STILL(AM9517_EDITION_AM9517A, 0), STILL(AM9517_EDITION_INTEL_8237A, 0), STILL(AM9517_EDITION_AM9517A, 255),
                                      STILL(AM9517_EDITION_INTEL_8237A, 1)};
 

@@ -130,7 +130,7 @@ static int same_chip(void)
     for (size_t n = 0; n < 4; n++)
         if (memcmp(chip.at + n * sizeof(am9517_channel), chip.loose + n * sizeof(am9517_channel), 9) != 0)
             return 0;
-    return memcmp(chip.at + tc, chip.loose + tc, offsetof(am9517_chip, command) + 1 - tc) == 0;
+    return memcmp(chip.at + tc, chip.loose + tc, offsetof(am9517_chip, waits) + 1 - tc) == 0;
 }
 
 static int turn(uint32_t i)
