@@ -10,12 +10,3 @@ pub mod Ranges
 pub mod Calls
 pub mod Sheets
 pub mod Steps
-pub mod Copies
-pub mod LastLaws
-pub mod EditionRunLaws
-pub mod EditionRoundLaws
-pub mod Editions
-pub mod Most
-pub mod SlowRunLaws
-pub mod SlowRoundLaws
-pub mod Waits

@@ -1,5 +1,4 @@
 -- The owner's demands. 1: Refusals, Calls. 2: Outcomes, Sheets, Ranges. 3: Fairness, over Grants and Rounds. Operations names what they speak of.
--- Document 02: Copies, A1; Editions, A2; Waits and Most, A3.
 pub mod Lists
 pub mod Operations
 pub mod Refusals
@@ -11,7 +10,3 @@ pub mod Ranges
 pub mod Calls
 pub mod Sheets
 pub mod Steps
-pub mod Copies
-pub mod Editions
-pub mod Waits
-pub mod Most

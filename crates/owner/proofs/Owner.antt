@@ -8,10 +8,10 @@ use Rattle.demands.proofs.Steps.{steps-over-the-width}
 use Rattle.demands.proofs.Sheets.{round-trips}
 use Rattle.demands.proofs.Rounds.{round-is-calls, spelled-leads, round-stops}
 use Rattle.demands.proofs.Fairness.{demand-3, demand-3-reported, lowest-kept}
-use Rattle.demands.proofs.Copies.{copy-loop}
-use Rattle.demands.proofs.Editions.{editions-differ}
-use Rattle.demands.proofs.Waits.{slow-cards}
-use Rattle.demands.proofs.Most.{most-counted}
+use Rattle.requests.proofs.Copies.{copy-loop}
+use Rattle.requests.proofs.Editions.{editions-differ}
+use Rattle.requests.proofs.Waits.{slow-cards}
+use Rattle.requests.proofs.Most.{most-counted}
 use Rattle.owner.proofs.Cases.{worked-cases, tight}
 
 pub owner : Owner

@@ -7,10 +7,10 @@ use Rattle.demands.specs.Steps.{StepsOverTheWidth}
 use Rattle.demands.specs.Sheets.{RoundTrips}
 use Rattle.demands.specs.Rounds.{RoundIsCalls, RoundStops, SpelledLeads}
 use Rattle.demands.specs.Fairness.{Demand3, Demand3Reported, LowestKept}
-use Rattle.demands.specs.Copies.{CopyLoop}
-use Rattle.demands.specs.Editions.{EditionsDiffer}
-use Rattle.demands.specs.Waits.{SlowCards}
-use Rattle.demands.specs.Most.{MostCounted}
+use Rattle.requests.specs.Copies.{CopyLoop}
+use Rattle.requests.specs.Editions.{EditionsDiffer}
+use Rattle.requests.specs.Waits.{SlowCards}
+use Rattle.requests.specs.Most.{MostCounted}
 use Rattle.owner.specs.Cases.{WorkedCases, Tight}
 
 pub record Owner : Type 2 where

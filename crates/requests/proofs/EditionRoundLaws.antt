@@ -16,10 +16,10 @@ use Rattle.am9517_service.specs.Ends.{counting}
 use Rattle.am9517_service.specs.Run.{runOf}
 use Rattle.am9517_service.specs.Round.{Course, course, runNext, withRun, afterNext, isEnded, Close, close, roundOf}
 use Rattle.am9517_service.specs.declared.RoundAnswer.the-variants as round
 use Rattle.demands.specs.Operations.{next}
 use Rattle.words.proofs.ChoiceLaws.{when-over}
-use Rattle.demands.proofs.LastLaws.{next-lasts}
-use Rattle.demands.proofs.EditionRunLaws.{inWorld, inStop, run-in}
+use Rattle.requests.proofs.LastLaws.{next-lasts}
+use Rattle.requests.proofs.EditionRunLaws.{inWorld, inStop, run-in}
 
 -- A round: its course in this edition.
 abbrev pub inCourse : ℕ → Course → Course

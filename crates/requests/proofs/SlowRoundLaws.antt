@@ -13,10 +13,10 @@ use Rattle.am9517_service.specs.Counts.{counts}
 use Rattle.am9517_service.specs.World.{startOf, memoryToMemory, Stop}
 use Rattle.am9517_service.specs.Run.{runOf}
 use Rattle.am9517_service.specs.Round.{Course, course, runNext, withRun, afterNext, isEnded, Close, close, roundOf}
-use Rattle.demands.specs.Waits.{waiting, more}
+use Rattle.requests.specs.Waits.{waiting, more}
 use Rattle.words.proofs.ChoiceLaws.{when-over, when-hit, when-miss}
-use Rattle.demands.proofs.EditionRoundLaws.{turn, round-over, round-turns}
-use Rattle.demands.proofs.SlowRunLaws.{slowStop, run-slow}
+use Rattle.requests.proofs.EditionRoundLaws.{turn, round-over, round-turns}
+use Rattle.requests.proofs.SlowRunLaws.{slowStop, run-slow}
 
 -- a run from its beginning
 pub started-slow : (s : Controller) (m d r : List ℕ) (limit eop : ℕ)

@@ -20,11 +20,11 @@ use Rattle.am9517_service.specs.Answers.{given, stopped, refusedOf, wrongSize, 
 use Rattle.am9517_service.specs.Round.{beginning, Close, close, roundOf}
 use Rattle.am9517_service.specs.RoundAnswers.{closed, roundGrounds, roundedOf}
 use Rattle.am9517_service.specs.declared.RoundAnswer.the-variants as round
-use Rattle.demands.specs.Waits.{waiting, more, ranSlower, unhurried, SlowCards}
+use Rattle.requests.specs.Waits.{waiting, more, ranSlower, unhurried, SlowCards}
 use Rattle.words.proofs.ChoiceLaws.{when-over}
-use Rattle.demands.proofs.LastLaws.{waits-kept}
-use Rattle.demands.proofs.SlowRunLaws.{slowStop}
-use Rattle.demands.proofs.SlowRoundLaws.{started-slow, bareClose, round-bare}
+use Rattle.requests.proofs.LastLaws.{waits-kept}
+use Rattle.requests.proofs.SlowRunLaws.{slowStop}
+use Rattle.requests.proofs.SlowRoundLaws.{started-slow, bareClose, round-bare}
 
 -- no range speaks of wait states
 valid-waiting : (n : ℕ) (s : Controller) → valid (waiting n s) ≡ valid s

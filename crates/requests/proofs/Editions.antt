@@ -32,15 +32,15 @@ use Rattle.am9517_service.specs.declared.RoundAnswer.the-variants as round
 use Rattle.am9517_sheet.specs.declared.forms.Form.the-variants.{One}
 use Rattle.am9517_sheet.specs.Body.{stateOf}
 use Rattle.am9517_sheet.specs.Sheet.{sheetIn, sheetReadGrounds}
 use Rattle.demands.specs.Operations.{Op, Write, Read, Pins, Reset, Waits, Grant, Run, Round, SheetWriting, SheetReading, scene, after, ranScene, roundScene}
-use Rattle.demands.specs.Editions.{ours, intel, Told, RunTold, RoundTold, reply, MeetsEop, Shared, asIntel, SameInBoth, withTc, EditionsDiffer}
+use Rattle.requests.specs.Editions.{ours, intel, Told, RunTold, RoundTold, reply, MeetsEop, Shared, asIntel, SameInBoth, withTc, EditionsDiffer}
 use Rattle.words.proofs.ChoiceLaws.{when-over}
 use Rattle.words.proofs.GroundLaws.{first-over}
 use Rattle.am9517_service.proofs.AnswerLaws.{run-refused, run-accepted}
 use Rattle.demands.proofs.Sheets.{zero-written, other-refused}
-use Rattle.demands.proofs.LastLaws.{edition-kept}
-use Rattle.demands.proofs.EditionRunLaws.{marked, meets, inStop, Ahead, not-yet, run-in}
-use Rattle.demands.proofs.EditionRoundLaws.{inClose, picked-in, granted-in, round-in}
+use Rattle.requests.proofs.LastLaws.{edition-kept}
+use Rattle.requests.proofs.EditionRunLaws.{marked, meets, inStop, Ahead, not-yet, run-in}
+use Rattle.requests.proofs.EditionRoundLaws.{inClose, picked-in, granted-in, round-in}
 
 -- no range tells the two editions apart
 valid-in : (s : Controller) → valid (intel s) ≡ valid (ours s)

@@ -33,9 +33,9 @@ use Rattle.am9517_service.specs.Run.{transferred, runOf}
 use Rattle.am9517_service.specs.Answers.{Given, stopped, runGrounds, ranOf}
 use Rattle.am9517_service.specs.Round.{Course, beginning, runNext, withRun, afterNext, isEnded, Close, roundOf}
 use Rattle.am9517_service.specs.RoundAnswers.{RoundGiven, closed, roundGrounds, roundedOf}
 use Rattle.demands.specs.Rounds.{Words}
-use Rattle.demands.specs.Most.{AtMost, longest, MostCounted}
+use Rattle.requests.specs.Most.{AtMost, longest, MostCounted}
 use Rattle.demands.specs.Operations.{Grant, next}
 use Rattle.words.proofs.ChoiceLaws.{when-both, when-each, when-miss}
 use Rattle.am9517_service.proofs.RunWayLaws.{neither-left}
 use Rattle.am9517_service.proofs.KeepLaws.{Counted, run-counted}
@@ -43,8 +43,8 @@ use Rattle.am9517_service.proofs.AnswerLaws.{run-accepted}
 use Rattle.am9517_service.proofs.CopyLegLaws.{copy-led}
 use Rattle.am9517_service.proofs.RoundTurnLaws.{counts-same}
 use Rattle.am9517_service.proofs.RoundLaws.{Tally, tally-start, tally-on, round-accepted, round-open}
 use Rattle.demands.proofs.StopLaws.{runCount, count-falls}
-use Rattle.demands.proofs.EditionRunLaws.{transfer-counted}
+use Rattle.requests.proofs.EditionRunLaws.{transfer-counted}
 
 -- A run makes as many transfers as its count allows: TC ends it.
 module _ (eop : ℕ) (d : List ℕ) where

@@ -20,11 +20,11 @@ use Rattle.am9517_service.specs.Transfer.{moved}
 use Rattle.am9517_service.specs.Copy.{copied}
 use Rattle.am9517_service.specs.Ends.{counting, reachesTc, finished, afterTcOrEop, single, ends}
 use Rattle.am9517_service.specs.Run.{transferred, runOf}
-use Rattle.demands.specs.Waits.{waiting, slower}
+use Rattle.requests.specs.Waits.{waiting, slower}
 use Rattle.words.proofs.ChoiceLaws.{when-both, when-over}
 use Rattle.am9517_service.proofs.TransferLaws.{next-mul}
-use Rattle.demands.proofs.LastLaws.{transfer-lasts}
-use Rattle.demands.proofs.EditionRunLaws.{ways-over}
+use Rattle.requests.proofs.LastLaws.{transfer-lasts}
+use Rattle.requests.proofs.EditionRunLaws.{ways-over}
 
 -- which sort of service it is stays
 sort-kept : (w : World) (d : List ℕ) → memoryToMemory (transferred w d .controller) ≡ memoryToMemory (w .controller)

@@ -36,7 +36,7 @@ use Rattle.am9517_service.proofs.KeepLaws.{run-ind}
 use Rattle.am9517_service.proofs.RunLaws.{transferred-copied}
 use Rattle.am9517_service.proofs.CopySourceLaws.{source-mode, source-none, source-more}
 use Rattle.am9517_service.proofs.CopyLegLaws.{copy-run}
-use Rattle.demands.specs.Copies.{Copies, ChannelZero, EndsAlike, CopyLoop}
+use Rattle.requests.specs.Copies.{Copies, ChannelZero, EndsAlike, CopyLoop}
 
 -- bit 0 where another one is set
 bit-0-kept : (b : ℕ) (v : Bool) → bit (withBit b 1 v) 0 ≡ bit b 0

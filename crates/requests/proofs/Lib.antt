@@ -1,0 +1,10 @@
+-- They are proved.
+pub mod Copies
+pub mod LastLaws
+pub mod EditionRunLaws
+pub mod EditionRoundLaws
+pub mod Editions
+pub mod Most
+pub mod SlowRunLaws
+pub mod SlowRoundLaws
+pub mod Waits

@@ -1,0 +1,5 @@
+-- What document 02's requests say, as statements over the definitions: Copies, A1; Editions, A2; Waits and Most, A3.
+pub mod Copies
+pub mod Editions
+pub mod Waits
+pub mod Most
