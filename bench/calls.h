@@ -4,7 +4,7 @@
 #include "works.h"
 
 /* Families of works, behind those of harness.c. */
-enum { C_NOTHING = 7, C_WRITE, C_READ, C_PINS, C_RESET, C_GRANT, C_CHECK, C_ENTITLED, C_STATUS, C_FRESH, C_SAVE, C_LOAD, C_RUN, C_ROUND, C_WAITS, C_OVER };
+enum { C_NOTHING = 7, C_WRITE, C_READ, C_PINS, C_RESET, C_GRANT, C_CHECK, C_ENTITLED, C_STATUS, C_FRESH, C_SAVE, C_LOAD, C_RUN, C_ROUND, C_WAITS, C_SAVE2, C_LOAD2, C_FORWARD, C_BACK, C_OVER };
 
 #define CALLS_OF(side) \
     u32 side##_check(const am9517_chip *); \
@@ -19,6 +19,10 @@ enum { C_NOTHING = 7, C_WRITE, C_READ, C_PINS, C_RESET, C_GRANT, C_CHECK, C_ENTI
     am9517_chip side##_fresh(u32); \
     u32 side##_save(const am9517_chip *, u8 *, usize); \
     u32 side##_load(am9517_chip *, const u8 *, usize); \
+    u32 side##_save2(const am9517_chip *, u8 *, usize); \
+    u32 side##_load2(am9517_chip *, const u8 *, usize); \
+    u32 side##_forward(const u8 *, usize, u8 *, usize); \
+    u32 side##_back(const u8 *, usize, u8 *, usize); \
     am9517_run_told side##_run(am9517_chip *, u8 *, usize, const u8 *, usize, u8 *, usize, u64, u64); \
     am9517_round_told side##_round(am9517_chip *, u8 *, usize, const u8 *, usize, u8 *, usize, u32);
 
@@ -37,13 +41,17 @@ struct calls {
     am9517_chip (*fresh)(u32);
     u32 (*save)(const am9517_chip *, u8 *, usize);
     u32 (*load)(am9517_chip *, const u8 *, usize);
+    u32 (*save2)(const am9517_chip *, u8 *, usize);
+    u32 (*load2)(am9517_chip *, const u8 *, usize);
+    u32 (*forward)(const u8 *, usize, u8 *, usize);
+    u32 (*back)(const u8 *, usize, u8 *, usize);
     am9517_run_told (*run)(am9517_chip *, u8 *, usize, const u8 *, usize, u8 *, usize, u64, u64);
     am9517_round_told (*round)(am9517_chip *, u8 *, usize, const u8 *, usize, u8 *, usize, u32);
 };
 
 #define ALL_OF(side) \
     {side##_check, side##_write, side##_read, side##_pins, side##_reset, side##_waits, side##_grant, side##_entitled, side##_status, \
-     side##_fresh, side##_save, side##_load, side##_run, side##_round}
+     side##_fresh, side##_save, side##_load, side##_save2, side##_load2, side##_forward, side##_back, side##_run, side##_round}
 
 static const struct calls CALLS[2] = {ALL_OF(am9517), ALL_OF(plain_am9517)};
 
@@ -57,13 +65,13 @@ static u64 round_sum(am9517_round_told t)
     return 256 * t.refusal + t.reason + begun + 2 * t.transfers + 3 * t.used + 5 * t.written + 7 * t.states;
 }
 
-/* What a call is given, beside the chip. */
+/* What a call is given, beside the chip: `sheet` is for form 1, `second` for form 2. */
 struct given {
     u32 reg, k;
     u8 byte;
     const u8 *device;
-    u8 *memory, *room, *sheet;
-    usize device_size, memory_size, room_size, sheet_size;
+    u8 *memory, *room, *sheet, *second;
+    usize device_size, memory_size, room_size, sheet_size, second_size;
     u64 limit, eop_at;
 };
 
@@ -92,6 +100,10 @@ static u64 do_call(int family, int side, const am9517_chip *start, am9517_chip *
     case C_FRESH: TURNS((*chip = c->fresh(g->reg), chip->mask))
     case C_SAVE: TURNS(c->save(chip, g->sheet, g->sheet_size))
     case C_LOAD: TURNS(c->load(chip, g->sheet, g->sheet_size))
+    case C_SAVE2: TURNS(c->save2(chip, g->second, g->second_size))
+    case C_LOAD2: TURNS(c->load2(chip, g->second, g->second_size))
+    case C_FORWARD: TURNS(c->forward(g->sheet, g->sheet_size, g->second, g->second_size))
+    case C_BACK: TURNS(c->back(g->second, g->second_size, g->sheet, g->sheet_size))
     case C_RUN:
         TURNS(run_sum(c->run(chip, g->memory, g->memory_size, g->device, g->device_size, g->room, g->room_size, g->limit, g->eop_at)))
     case C_ROUND: TURNS(round_sum(c->round(chip, g->memory, g->memory_size, g->device, g->device_size, g->room, g->room_size, g->k)))

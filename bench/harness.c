@@ -46,13 +46,22 @@ static void put_channel(u8 *sheet, u32 n, u32 address, u32 count, u32 mode)
     p[8] = (u8)mode;
 }
 
-static void put_trailer(u8 *sheet)
+/* Of this form, behind so many body bytes. */
+static void put_trailer(u8 *sheet, u32 form, u32 size)
 {
+    u8 *t = sheet + size;
     u32 sum = 0;
-    for (int i = 0; i < 48; i++) sum += sheet[i];
-    sheet[48] = 1, sheet[49] = 0, sheet[50] = 48, sheet[51] = 0;
-    put_word(sheet + 52, sum);
-    sheet[54] = 0x44, sheet[55] = 0x4d;
+    for (u32 i = 0; i < size; i++) sum += sheet[i];
+    put_word(t, form), put_word(t + 2, size), put_word(t + 4, sum);
+    t[6] = 0x44, t[7] = 0x4d;
+}
+
+/* The same state in form 2, of this edition and with these waits. */
+static void put_second(u8 *second, const u8 *sheet, u32 edition, u32 waits)
+{
+    second[0] = (u8)edition, second[1] = (u8)waits;
+    memcpy(second + 2, sheet, 48);
+    put_trailer(second, 2, 50);
 }
 
 static int is_run(const struct work *w) { return w->family == RUN || w->family == C_RUN; }
@@ -72,19 +81,29 @@ static void put_state(u8 *sheet, const struct work *w)
     sheet[42] = 15;
     sheet[43] = 3;
     sheet[44] = (u8)is_run(w);
-    put_trailer(sheet);
+    put_trailer(sheet, 1, 48);
 }
 
 /* ---- calls of the C library ---- */
 
+/* The bytes of both sheets, so that a difference in one tells. */
+static u64 sheets_sum(const u8 *sheet, const u8 *second)
+{
+    u64 sum = 0;
+    for (u64 i = 0; i < 58; i++) sum = 31 * sum + second[i] + (i < 56 ? sheet[i] << 8 : 0);
+    return sum;
+}
+
 static u64 do_c_work(const struct work *w, u64 times, u8 *sheet)
 {
-    struct given g = {w->reg, w->k, (u8)w->byte, device, memory, room, sheet, LENT, 65536, LENT, 56, 65536, 0};
+    u8 second[58];
+    struct given g = {w->reg, w->k, (u8)w->byte, device, memory, room, sheet, second, LENT, 65536, LENT, 56, 58, 65536, 0};
+    put_second(second, sheet, w->k, 0);
     am9517_chip start = am9517_fresh(AM9517_EDITION_AM9517A), chip = start;
     am9517_load(&start, sheet, 56);
     if (is_run(w) || is_round(w)) start.waits = (u8)w->byte;
     else start.edition = (u8)w->k;
-    u64 sum = do_call(w->family, w->side, &start, &chip, &g, times);
+    u64 sum = do_call(w->family, w->side, &start, &chip, &g, times) + sheets_sum(sheet, second);
     chip.edition = AM9517_EDITION_AM9517A, chip.waits = 0; /* a sheet has no place for others */
     am9517_save(&chip, sheet, 56);
     return sum;
@@ -261,11 +280,11 @@ static void put_random_state(u8 *sheet, int open)
     sheet[46] = (u8)(open ? random_below(2) : 0), sheet[47] = (u8)(sheet[46] ? random_below(256) : 0);
     if (random_below(8) == 0) sheet[random_below(48)] ^= (u8)(1u << random_below(8));
     if (random_below(16) == 0) sheet[36 + random_below(12)] = (u8)random_below(20);
-    put_trailer(sheet);
+    put_trailer(sheet, 1, 48);
 }
 
 struct outcome {
-    u8 sheet[56], memory[65537], room[8192];
+    u8 sheet[56], second[58], memory[65537], room[8192];
     u64 told;
 };
 
@@ -352,28 +371,30 @@ static u64 random_eop(const am9517_chip *c)
 static int call_differs(void)
 {
     int family = C_WRITE + (int)random_below(C_OVER - C_WRITE), open = random_below(8) ? family == C_RUN : family != C_RUN;
-    u8 sheet[56];
+    u8 sheet[56], second[58];
     am9517_chip start = am9517_fresh(AM9517_EDITION_AM9517A), chip[2];
     u64 told[2];
     put_random_state(sheet, open);
+    put_second(second, sheet, random_below(4) ? 0 : random_below(3), random_below(2) ? 0 : random_below(256));
     am9517_load(&start, sheet, 56);
     start.edition = (u8)(random_below(32) ? random_below(2) : random_below(256));
     start.waits = (u8)(random_below(2) ? random_below(256) : 0);
     if (random_below(4) == 0) ((u8 *)&start)[random_below(sizeof start)] ^= (u8)(1u << random_below(8));
     sheet[random_below(56)] ^= (u8)(random_below(3) ? 0 : 1u << random_below(8));
-    struct given g = {random_number(), random_below(9) ? random_below(30) : random_near(4096), (u8)random_below(random_below(2) ? 17 : 256), device, 0, 0, 0,
+    second[random_below(58)] ^= (u8)(random_below(3) ? 0 : 1u << random_below(8));
+    struct given g = {random_number(), random_below(9) ? random_below(30) : random_near(4096), (u8)random_below(random_below(2) ? 17 : 256), device, 0, 0, 0, 0,
                       random_below(300), random_below(16) ? 65536 : random_near(65536) & 65535, random_below(300), 56 - random_below(9) / 8,
-                      random_below(2) ? 65536 : random_below(40), random_eop(&start)};
+                      58 - random_below(9) / 8, random_below(2) ? 65536 : random_below(40), random_eop(&start)};
     for (int side = PROVED; side <= PLAIN; side++) {
         struct outcome *o = &outcomes[side];
-        memcpy(o->sheet, sheet, 56);
+        memcpy(o->sheet, sheet, 56), memcpy(o->second, second, 58);
         for (int i = 0; i < 65537; i++) o->memory[i] = (u8)(i * 31 + i / 253);
         for (int i = 0; i < 8192; i++) o->room[i] = 0xee;
-        g.memory = o->memory, g.room = o->room, g.sheet = o->sheet;
+        g.memory = o->memory, g.room = o->room, g.sheet = o->sheet, g.second = o->second;
         told[side] = do_call(family, side, &start, &chip[side], &g, 1);
     }
     return told[0] != told[1] || !same_chip(&chip[0], &chip[1]) || memcmp(outcomes[0].sheet, outcomes[1].sheet, 56) ||
-           memcmp(outcomes[0].memory, outcomes[1].memory, 65537) || memcmp(outcomes[0].room, outcomes[1].room, 8192);
+           memcmp(outcomes[0].second, outcomes[1].second, 58) || memcmp(outcomes[0].memory, outcomes[1].memory, 65537) || memcmp(outcomes[0].room, outcomes[1].room, 8192);
 }
 
 static int check(int n)

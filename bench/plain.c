@@ -1,17 +1,11 @@
 /* The plain model behind the works of works.h. */
 #include "plain.h"
 
-static int trailer_right(const u8 *sheet)
-{
-    const u8 *t = sheet + 48;
-    return t[6] == 0x44 && t[7] == 0x4d && t[0] == 1 && t[1] == 0 && t[2] == 48 && t[3] == 0 && word(t + 4) == sum_of(sheet);
-}
-
 /* The state of a sheet of 56 bytes, a fresh one where the sheet is refused. */
 static am9517_chip state_in(const u8 *sheet)
 {
     am9517_chip fresh = {.mask = 15, .lowest = 3}, c = fields_in(sheet);
-    return trailer_right(sheet) && valid(&c) ? c : fresh;
+    return trailer_fault(sheet + 48, 1, 48, sum_of(sheet)) == 0 && valid(&c) ? c : fresh;
 }
 
 static u64 mixed(const struct told *t)

@@ -1,4 +1,4 @@
-/* A plain model of document 01, with requests A1 to A3 of document 02, in C: one transfer after the other, each rule where
+/* A plain model of document 01, with requests A1 to A3 and A5 of document 02, in C: one transfer after the other, each rule where
    the document has it. It is the measure that the proved controller is held to; bench/check compares the two. plain.c has the
    works over it, plain_calls.c the calls of the C library by pointer; all take the struct of am9517.h. */
 #include "am9517.h"
@@ -310,7 +310,7 @@ static u32 sum_of(const u8 *body)
     return sum;
 }
 
-/* The state that a sheet's body tells, whatever its ranges: an Am9517A without waits, for it has no place for either. */
+/* The state that form 1's body tells, whatever its ranges: an Am9517A without waits, for it has no place for either. */
 static am9517_chip fields_in(const u8 *sheet)
 {
     am9517_chip c;
@@ -331,11 +331,25 @@ static void put_word(u8 *b, u32 value)
     b[1] = (u8)(value >> 8);
 }
 
-static void write_sheet(const am9517_chip *c, u8 *sheet)
+/* The first fault of a trailer, 10 to 13, or 0. */
+static u32 trailer_fault(const u8 *t, u32 form, u32 distance, u32 sum)
+{
+    if (t[6] != 0x44 || t[7] != 0x4d) return 10;
+    if (word(t) != form) return 11;
+    if (word(t + 2) != distance) return 12;
+    return word(t + 4) != sum ? 13 : 0;
+}
+
+static void write_trailer(u8 *t, u32 form, u32 distance, u32 sum)
+{
+    put_word(t, form), put_word(t + 2, distance), put_word(t + 4, sum);
+    t[6] = 0x44, t[7] = 0x4d;
+}
+
+static void write_body(const am9517_chip *c, u8 *sheet)
 {
     const u8 fields[12] = {c->command, c->tc, c->request, c->mask, c->temporary, c->flip_flop,
                            c->pins, c->lowest, c->in_service, c->serving, c->latch_full, c->latch};
-    const u8 trailer[8] = {1, 0, 48, 0, 0, 0, 0x44, 0x4d};
     for (int n = 0; n < 4; n++) {
         const am9517_channel *ch = &c->channels[n];
         u8 *p = sheet + 9 * n;
@@ -344,6 +358,10 @@ static void write_sheet(const am9517_chip *c, u8 *sheet)
         p[8] = ch->mode;
     }
     for (int i = 0; i < 12; i++) sheet[36 + i] = fields[i];
-    for (int i = 0; i < 8; i++) sheet[48 + i] = trailer[i];
-    put_word(sheet + 52, sum_of(sheet));
+}
+
+static void write_sheet(const am9517_chip *c, u8 *sheet)
+{
+    write_body(c, sheet);
+    write_trailer(sheet + 48, 1, 48, sum_of(sheet));
 }

@@ -99,23 +99,83 @@ u32 CALL(save)(const am9517_chip *chip, u8 *sheet, usize size)
     return 0;
 }
 
-static u32 load_refusal(const u8 *sheet)
-{
-    const u8 *t = sheet + 48;
-    if (t[6] != 0x44 || t[7] != 0x4d) return 10;
-    if (t[0] != 1 || t[1] != 0) return 11;
-    if (t[2] != 48 || t[3] != 0) return 12;
-    return word(t + 4) != sum_of(sheet) ? 13 : 0;
-}
-
 u32 CALL(load)(am9517_chip *chip, const u8 *sheet, usize size)
 {
     if (size < AM9517_SHEET_SIZE) return 9;
     const u8 *last = sheet + size - AM9517_SHEET_SIZE;
-    u32 no = load_refusal(last);
+    u32 no = trailer_fault(last + 48, 1, 48, sum_of(last));
     if (no != 0) return no;
     am9517_chip told = fields_in(last);
     if (!valid(&told)) return 14;
     *chip = told;
+    return 0;
+}
+
+/* Form 2 has edition and waits before form 1's 48 bytes. */
+static u32 sum_of2(const u8 *body) { return body[0] + body[1] + sum_of(body + 2); }
+
+static am9517_chip fields_in2(const u8 *sheet)
+{
+    am9517_chip c = fields_in(sheet + 2);
+    c.edition = sheet[0], c.waits = sheet[1];
+    return c;
+}
+
+u32 CALL(save2)(const am9517_chip *chip, u8 *sheet, usize size)
+{
+    if (!valid(chip)) return 1;
+    if (size < AM9517_SHEET2_SIZE) return 9;
+    u8 *last = sheet + size - AM9517_SHEET2_SIZE;
+    last[0] = chip->edition, last[1] = chip->waits;
+    write_body(chip, last + 2);
+    write_trailer(last + 50, 2, 50, sum_of2(last));
+    return 0;
+}
+
+u32 CALL(load2)(am9517_chip *chip, const u8 *sheet, usize size)
+{
+    if (size < AM9517_SHEET2_SIZE) return 9;
+    const u8 *last = sheet + size - AM9517_SHEET2_SIZE;
+    u32 no = trailer_fault(last + 50, 2, 50, sum_of2(last));
+    if (no != 0) return no;
+    am9517_chip told = fields_in2(last);
+    if (!valid(&told)) return 14;
+    *chip = told;
+    return 0;
+}
+
+/* The 48 body bytes that both forms have. */
+static void copy_body(u8 *to, const u8 *from)
+{
+    for (int i = 0; i < 48; i++) to[i] = from[i];
+}
+
+u32 CALL(forward)(const u8 *source, usize source_size, u8 *target, usize target_size)
+{
+    if (source_size < AM9517_SHEET_SIZE || target_size < AM9517_SHEET2_SIZE) return 9;
+    const u8 *from = source + source_size - AM9517_SHEET_SIZE;
+    u8 *to = target + target_size - AM9517_SHEET2_SIZE;
+    u32 no = trailer_fault(from + 48, 1, 48, sum_of(from));
+    if (no != 0) return no;
+    am9517_chip told = fields_in(from);
+    if (!valid(&told)) return 14;
+    to[0] = to[1] = 0;
+    copy_body(to + 2, from);
+    write_trailer(to + 50, 2, 50, sum_of2(to));
+    return 0;
+}
+
+u32 CALL(back)(const u8 *source, usize source_size, u8 *target, usize target_size)
+{
+    if (source_size < AM9517_SHEET2_SIZE || target_size < AM9517_SHEET_SIZE) return 9;
+    const u8 *from = source + source_size - AM9517_SHEET2_SIZE;
+    u8 *to = target + target_size - AM9517_SHEET_SIZE;
+    u32 no = trailer_fault(from + 50, 2, 50, sum_of2(from));
+    if (no != 0) return no;
+    am9517_chip told = fields_in2(from);
+    if (!valid(&told)) return 14;
+    if (told.edition || told.waits) return 15;
+    copy_body(to, from + 2);
+    write_trailer(to + 48, 1, 48, sum_of(to));
     return 0;
 }

@@ -21,12 +21,26 @@ AREA = [c_char_p, c_size_t]
 CALLS = {"version": (c_uint32, []), "fresh": (Chip, [c_uint32]), "write": (c_uint32, [POINTER(Chip), c_uint32, c_uint8]),
          "pins": (c_uint32, [POINTER(Chip), c_uint32]), "waits": (c_uint32, [POINTER(Chip), c_uint8]),
          "grant": (Told, [POINTER(Chip)]), "status": (Told, [POINTER(Chip)]),
-         "run": (Ran, [POINTER(Chip), *AREA, *AREA, *AREA, c_uint64, c_uint64])}
+         "run": (Ran, [POINTER(Chip), *AREA, *AREA, *AREA, c_uint64, c_uint64]),
+         "save2": (c_uint32, [POINTER(Chip), *AREA]), "load2": (c_uint32, [POINTER(Chip), *AREA]),
+         "forward": (c_uint32, [*AREA, *AREA]), "back": (c_uint32, [*AREA, *AREA])}
+SHEET, SHEET2 = 56, 58  # bytes of a sheet of form 1, and of form 2
 
 
 def ok(refusal):
     if refusal:
         raise SystemExit("refused %d" % refusal)
+
+
+def kept(call, chip):
+    """The chip as an archive gives it back: stored in form 2, lent to an old reader in form 1, and taken up in form 2 again."""
+    other, new, old = call["fresh"](INTEL_8237A), ctypes.create_string_buffer(SHEET2), ctypes.create_string_buffer(SHEET)
+    ok(call["save2"](byref(chip), new, SHEET2))
+    ok(call["back"](new, SHEET2, old, SHEET))
+    ctypes.memset(new, 0, SHEET2)
+    ok(call["forward"](old, SHEET, new, SHEET2))
+    ok(call["load2"](byref(other), new, SHEET2))
+    return other
 
 
 def main(path="libam9517.so.4"):
@@ -44,6 +58,7 @@ def main(path="libam9517.so.4"):
     ok(grant.refusal)
     run = call["run"](byref(chip), memory, len(memory), holds, len(holds), None, 0, 65536, 0)
     ok(run.refusal)
+    chip = kept(call, chip)
     print("channel", grant.value)
     print(f"{REASONS[run.reason]} transfers={run.transfers} used={run.used} states={run.states}")
     print("memory at 0200h:", memory.raw[0x200:0x20C].hex(" "))

@@ -1,4 +1,4 @@
-/* am9517.h - one Am9517A or Intel 8237A DMA controller in software, as a C library. Version 4.0.0.
+/* am9517.h - one Am9517A or Intel 8237A DMA controller in software, as a C library. Version 4.1.0.
  *
  *     am9517_chip chip = am9517_fresh(AM9517_EDITION_AM9517A);
  *     uint32_t refusal = am9517_write(&chip, 0xb, 0x85);
@@ -6,8 +6,8 @@
  *         puts(am9517_refusal_text(refusal));
  *
  * Link with libam9517.a or libam9517.so.4. C99 or later, C++11 or later (am9517.hpp has a class for C++17). "Document 01"
- * is the rules of this controller, "One Am9517A in software: rules and limits", with what the landed requests A1 to A3 of
- * document 02, "More requests from customers", change in them.
+ * is the rules of this controller, "One Am9517A in software: rules and limits", with what the landed requests A1 to A3 and A5
+ * of document 02, "More requests from customers", change in them.
  *
  * PLATFORM. x86-64 Linux, the System V calling convention, 64-bit pointers: the library is machine code for it and for
  * nothing else. Of the C library it wants memset alone. The shared library names the GNU C library, of any age: with
@@ -22,40 +22,49 @@
  *
  * EDITIONS. A chip is an Am9517A or an Intel 8237A: am9517_fresh is told which, the field `edition` has it, reset and master
  * clear keep it. In an Intel chip a write of register E clears all four mask bits, where an Am9517A refuses it by 4; external
- * EOP sets the TC bit; and am9517_save refuses the chip by 15, for a sheet has no place for the edition. A sheet that is
- * loaded gives an Am9517A. All else is the same.
+ * EOP sets the TC bit; and am9517_save refuses the chip by 15, for a sheet of form 1 has no place for the edition: store it
+ * by am9517_save2. A sheet of form 1 that is loaded gives an Am9517A. All else is the same.
  *
  * WAIT STATES. Slow memory cards hold READY low: each transfer then takes that many working states more, verify too, and one of
  * memory-to-memory twice that. am9517_waits sets them, 0 to 255, in a chip of either edition, while it is idle; the field `waits`
  * has them; a fresh chip has none; reset and master clear keep them. They change `states` and nothing else: transfers, bytes and
  * registers stay as they are. A run says at most 33,947,648 states (65,536 transfers of 518), a round 139,049,566,208: more than
- * 32 bits hold, so keep `states` in 64. A sheet has no place for them: am9517_save refuses a chip with waits by 15, and a sheet
- * that is loaded gives a chip without.
+ * 32 bits hold, so keep `states` in 64. A sheet of form 1 has no place for them: am9517_save refuses a chip with waits by 15,
+ * and such a sheet gives a chip without; one of form 2 has them.
+ *
+ * SHEETS are the chip as bytes, for files and for sending; memory and device are no part of them. Form 1 has 56 bytes
+ * (am9517_save, am9517_load); form 2 has 58, edition and wait states before the rest (am9517_save2, am9517_load2), and every
+ * chip that is in its ranges has one. A sheet is the last bytes of its slice; those before it play no part and stay.
+ * am9517_forward and am9517_back write a sheet of one form in the other, with no chip: forward any good one, back exactly those
+ * whose edition and waits are 0, else 15. Forward and back gives the same bytes, and so does back and forward. Who reads one
+ * form refuses a sheet of the other, by 11 or, in too few bytes, by 9.
  *
  * REFUSALS. Each call but am9517_version, am9517_fresh and the two texts says a refusal number, 0 for none. Where several
  * hold it is the first in the order that stands with the call. A refused call changes no field of the chip and no byte of
- * memory, room or sheet, and the other numbers of its answer are 0. All numbers may be given in full: a register over 15, a
- * limit of 2^64 - 1 and the like have defined answers. A `byte`, and the `states` of am9517_waits, is uint8_t: C itself narrows
- * what is given, so am9517_write(&chip, 8, 0x110) writes 10h and am9517_waits(&chip, 256) sets none; ask before if the number
- * may be larger.
+ * memory, room, sheet or target, and the other numbers of its answer are 0. All numbers may be given in full: a register over
+ * 15, a limit of 2^64 - 1 and the like have defined answers. A `byte`, and the `states` of am9517_waits, is uint8_t: C itself
+ * narrows what is given, so am9517_write(&chip, 8, 0x110) writes 10h and am9517_waits(&chip, 256) sets none; ask before if the
+ * number may be larger.
  *
  * AREAS are a pointer and a number of bytes. What one call is lent must not overlap: chip, memory, device, room or sheet
- * are different areas, and the compiler relies on it. (Two chips may share one memory, in calls one after the other.) A
- * pointer to a chip is never NULL and lies at an even address. An area of 0 bytes is never looked into; its pointer may be
- * anything, NULL too.
+ * are different areas, source and target too, so no sheet is converted in its place; the compiler relies on it. (Two chips may
+ * share one memory, in calls one after the other.) A pointer to a chip is never NULL and lies at an even address. An area of 0
+ * bytes is never looked into; its pointer may be anything, NULL too.
  *
  * THREADS. The library keeps nothing between two calls. Calls that share no area may run at the same time: two chips, each
- * with a memory of its own. The looking calls, whose chip is const (am9517_check, am9517_entitled, am9517_status, am9517_save),
- * write no byte of the chip, so several may look at one chip at once. A call that changes a chip or an area must have it alone.
+ * with a memory of its own. The looking calls, whose chip is const (am9517_check, am9517_entitled, am9517_status, am9517_save,
+ * am9517_save2), write no byte of the chip, so several may look at one chip at once; a source and a sheet that is loaded are
+ * only looked at, too. A call that changes a chip or an area must have it alone.
  *
- * WHAT IS PROVED. The code of each call, for all inputs: chip, memory, room, sheet and answer after it are what document 01's
- * rules say, refused ones too. Not proved: that the declarations of this header are those of the library (they were read
- * beside each other, and the tests make every call), the two texts below, which are plain C, the C compiler that compiles
- * the caller, and the code generator that made the library. What a caller must keep to is what AREAS and THREADS say: good
- * pointers, no overlap, no race.
+ * WHAT IS PROVED. The code of each call, for all inputs: chip, memory, room, sheet, target and answer after it are what
+ * document 01's rules say, refused ones too. Not proved: that the declarations of this header are those of the library (they
+ * were read beside each other, and the tests make every call), the two texts below, which are plain C, the C compiler that
+ * compiles the caller, and the code generator that made the library. What a caller must keep to is what AREAS and THREADS say:
+ * good pointers, no overlap, no race.
  *
  * VERSIONS. A new major number: a struct, a call or a number has changed, compile again. A new minor number: more calls; what was
- * compiled before runs on. Sheets outlive both: form 1 is document 01's. Version 3 had no wait states: the chip's last byte
+ * compiled before runs on. Sheets outlive both: form 1 is document 01's, form 2 document 02's. Version 4.0 had no form 2:
+ * neither am9517_save2 and am9517_load2 nor am9517_forward and am9517_back. Version 3 had no wait states: the chip's last byte
  * was padding, and there was no am9517_waits. Version 2 had the one edition: no field for it, a struct of 52 bytes,
  * am9517_fresh(void), no refusal 15. Version 1 kept the state as a sheet and had am9517_copy; its calls took the sheet where
  * these take the chip.
@@ -76,11 +85,12 @@ extern "C" {
 #endif
 
 #define AM9517_VERSION_MAJOR 4
-#define AM9517_VERSION_MINOR 0
+#define AM9517_VERSION_MINOR 1
 #define AM9517_VERSION_PATCH 0
-#define AM9517_VERSION 40000  /* major * 10000 + minor * 100 + patch */
+#define AM9517_VERSION 40100  /* major * 10000 + minor * 100 + patch */
 
 #define AM9517_SHEET_SIZE 56      /* bytes of a stored sheet, form 1 */
+#define AM9517_SHEET2_SIZE 58     /* and of one of form 2 */
 #define AM9517_MEMORY_SIZE 65536  /* bytes of a memory: a run or a round takes no other number */
 #define AM9517_ROUND_MOST 4096    /* services that a round may be asked for */
 
@@ -101,13 +111,13 @@ enum am9517_refusal {
     AM9517_NOBODY = 6,           /* grant with no entitled channel */
     AM9517_MEMORY_LENGTH = 7,    /* memory not of 65,536 bytes */
     AM9517_NO_SERVICE = 8,       /* run with no service open */
-    AM9517_SHEET_SHORT = 9,      /* slice under 56 bytes for a sheet */
+    AM9517_SHEET_SHORT = 9,      /* slice under 56 bytes for a sheet (58 in form 2) */
     AM9517_SHEET_END_MARK = 10,  /* the sheet's last two bytes are not 44h, 4Dh */
-    AM9517_SHEET_FORM = 11,      /* its form is not 1 */
-    AM9517_SHEET_DISTANCE = 12,  /* its distance from trailer to body is not 48 */
-    AM9517_SHEET_SUM = 13,       /* its sum is not that of its 48 body bytes */
+    AM9517_SHEET_FORM = 11,      /* its form is not the one that is read */
+    AM9517_SHEET_DISTANCE = 12,  /* its distance from trailer to body is not 48, in form 2 50 */
+    AM9517_SHEET_SUM = 13,       /* its sum is not that of its body bytes, 48 or 50 */
     AM9517_SHEET_RANGE = 14,     /* it is sealed, and breaks a range */
-    AM9517_SHEET_NO_PLACE = 15   /* form 1 has no place for edition and waits: no Intel chip and none with waits can be saved */
+    AM9517_SHEET_NO_PLACE = 15   /* form 1 has no place for edition and waits: no Intel chip and none with waits goes into it */
 };
 
 /* Why a run or a round stopped. */
@@ -202,7 +212,7 @@ uint32_t am9517_version(void);
 
 /* A fresh chip of this edition (enum am9517_edition): all zero, the wait states too, but the mask (15), the lowest channel (3)
  * and the edition. A number over 1 is no edition: the field `edition` has it, 255 for any over 255, and every call but
- * am9517_load refuses the chip by 1. */
+ * am9517_load and am9517_load2 refuses the chip by 1. */
 am9517_chip am9517_fresh(uint32_t edition);
 
 /* Says whether every field is in its range, and changes nothing. Refusals: 1. */
@@ -266,12 +276,33 @@ am9517_round_told am9517_round(am9517_chip *chip,
 
 /* Stores the chip as a sheet of form 1 in the last 56 bytes of `sheet`; bytes before them aren't touched. A chip in service
  * can be stored, and goes on after am9517_load. Memory and device are not part of it. Form 1 has no place for edition and wait
- * states: an Intel chip, and one whose `waits` is not 0, is refused by 15. Refusals: 1, 9, 15. */
+ * states: an Intel chip, and one whose `waits` is not 0, is refused by 15 (am9517_save2 stores it). Refusals: 1, 9, 15. */
 uint32_t am9517_save(const am9517_chip *chip, uint8_t *sheet, size_t size);
 
 /* Loads the chip from the sheet in the last 56 bytes of `sheet`. What the chip was plays no part: it is an Am9517A without wait
- * states then, for form 1 tells of no other. Refused, it stays, with its edition and waits. Refusals: 9, 10, 11, 12, 13, 14. */
+ * states then, for form 1 tells of no other. Refused, it stays, with its edition and waits. A sheet of form 2 is refused by 11.
+ * Refusals: 9, 10, 11, 12, 13, 14. */
 uint32_t am9517_load(am9517_chip *chip, const uint8_t *sheet, size_t size);
+
+/* Stores the chip as a sheet of form 2 in the last 58 bytes of `sheet`, AM9517_SHEET2_SIZE; bytes before them aren't touched.
+ * Its edition and its wait states stand in it, so that a chip of either edition, with waits or without, is stored, in service
+ * too. Refusals: 1, 9. */
+uint32_t am9517_save2(const am9517_chip *chip, uint8_t *sheet, size_t size);
+
+/* Loads the chip from the sheet of form 2 in the last 58 bytes of `sheet`, edition and wait states too. What the chip was plays
+ * no part. Refused, it stays. A sheet of form 1 is refused by 11, in fewer than 58 bytes by 9; an edition over 1 is a range.
+ * Refusals: 9, 10, 11, 12, 13, 14. */
+uint32_t am9517_load2(am9517_chip *chip, const uint8_t *sheet, size_t size);
+
+/* Writes the sheet of form 1 in the last 56 bytes of `source` as one of form 2 in the last 58 bytes of `target`, with edition 0
+ * and no wait states; bytes before them aren't touched. Source and target may not overlap. 9 is either's: a source under 56
+ * bytes or a target under 58. Refusals: 9, 10, 11, 12, 13, 14. */
+uint32_t am9517_forward(const uint8_t *source, size_t source_size, uint8_t *target, size_t target_size);
+
+/* Writes the sheet of form 2 in the last 58 bytes of `source` as one of form 1 in the last 56 bytes of `target`, where its
+ * edition and its wait states are 0; else 15. Source and target may not overlap. 9 is either's: a source under 58 bytes or a
+ * target under 56. Refusals: 9, 10, 11, 12, 13, 14, 15. */
+uint32_t am9517_back(const uint8_t *source, size_t source_size, uint8_t *target, size_t target_size);
 
 /* A refusal number in words, the rack console's (`help refusals`); there is a text for every number. */
 static inline const char *am9517_refusal_text(uint32_t refusal)
@@ -286,7 +317,7 @@ static inline const char *am9517_refusal_text(uint32_t refusal)
     case 6: return "grant with no entitled channel";
     case 7: return "memory not of 65,536 bytes";
     case 8: return "run with no service open";
-    case 9: return "slice under 56 bytes for a sheet";
+    case 9: return "slice under 56 bytes for a sheet (58 in form 2)";
     case 10: return "sheet fault: end mark";
     case 11: return "sheet fault: first two trailer bytes";
     case 12: return "sheet fault: distance";

@@ -9,7 +9,8 @@
 // Header only: link with the same library. Nothing here is proved; each method makes the one C call of its name, whose
 // contract stands in am9517.h, and none throws. A Chip is a value: copies are chips of their own. Its fields are those of the
 // C struct, read and set by fields(); edition and wait states are among them. A result has a value or a refusal; where it is
-// refused its value is all zero.
+// refused its value is all zero. Sheets of form 2 are stored and loaded by save2, load2 and sheet2; forward and back write a
+// sheet of one form in the other.
 #ifndef AM9517_HPP
 #define AM9517_HPP
 
@@ -79,6 +80,7 @@ inline constexpr std::uint64_t no_limit = ~std::uint64_t{0};
 
 using Memory = std::array<std::uint8_t, AM9517_MEMORY_SIZE>;
 using Sheet = std::array<std::uint8_t, AM9517_SHEET_SIZE>;
+using Sheet2 = std::array<std::uint8_t, AM9517_SHEET2_SIZE>;
 
 // ---- spans: a pointer and a length, from std::vector, std::array, arrays, std::span and whatever has data() and size(). A span
 // doesn't own: keep none of a temporary.
@@ -207,15 +209,24 @@ public:
         return {Refusal{told.refusal}, Round{Reason{told.reason}, services, told.transfers, told.used, told.written, told.states}};
     }
 
-    // Into, and from, the last 56 bytes: an Am9517A without wait states alone has a sheet, and what is loaded is one.
+    // Into, and from, the last 56 bytes: an Am9517A without wait states alone has a sheet of form 1, and what is loaded is one.
     Result<void> save(Bytes sheet) const noexcept { return done(am9517_save(&chip_, sheet.data(), sheet.size())); }
     Result<void> load(ConstBytes sheet) noexcept { return done(am9517_load(&chip_, sheet.data(), sheet.size())); }
+    // Form 2, into and from the last 58 bytes: with edition and wait states, so that every chip in its ranges has one.
+    Result<void> save2(Bytes sheet) const noexcept { return done(am9517_save2(&chip_, sheet.data(), sheet.size())); }
+    Result<void> load2(ConstBytes sheet) noexcept { return done(am9517_load2(&chip_, sheet.data(), sheet.size())); }
 
     // The sheet by itself.
     Result<Sheet> sheet() const noexcept
     {
         Sheet bytes{};
         const Refusal refusal = save(bytes).refusal();
+        return {refusal, bytes};
+    }
+    Result<Sheet2> sheet2() const noexcept
+    {
+        Sheet2 bytes{};
+        const Refusal refusal = save2(bytes).refusal();
         return {refusal, bytes};
     }
 
@@ -247,6 +258,34 @@ private:
 
     am9517_chip chip_;
 };
+
+// ---- sheets of one form in the other; source and target may not overlap
+
+// Of form 1 in form 2, with edition 0 and no wait states.
+inline Result<void> forward(ConstBytes source, Bytes target) noexcept
+{
+    return Result<void>(Refusal{am9517_forward(source.data(), source.size(), target.data(), target.size())});
+}
+
+// Of form 2 in form 1, where edition and wait states are 0.
+inline Result<void> back(ConstBytes source, Bytes target) noexcept
+{
+    return Result<void>(Refusal{am9517_back(source.data(), source.size(), target.data(), target.size())});
+}
+
+// The new sheet by itself.
+inline Result<Sheet2> forward(ConstBytes source) noexcept
+{
+    Sheet2 bytes{};
+    const Refusal refusal = forward(source, bytes).refusal();
+    return {refusal, bytes};
+}
+inline Result<Sheet> back(ConstBytes source) noexcept
+{
+    Sheet bytes{};
+    const Refusal refusal = back(source, bytes).refusal();
+    return {refusal, bytes};
+}
 
 }  // namespace am9517
 

@@ -16,7 +16,7 @@ LIES(waits, offsetof(am9517_chip, waits) == 53 && sizeof(((am9517_chip *)0)->wai
 LIES(last, offsetof(am9517_chip, temporary) == 51 && offsetof(am9517_chip, command) == 52);
 LIES(states, sizeof(((am9517_run_told *)0)->states) == 8 && sizeof(((am9517_round_told *)0)->states) == 8);
 
-enum { SHEET = AM9517_SHEET_SIZE, MEMORY = AM9517_MEMORY_SIZE, ROOM = 16, GUARD = 32, WATCH = 0xc3 };
+enum { SHEET = AM9517_SHEET_SIZE, SHEET2 = AM9517_SHEET2_SIZE, MEMORY = AM9517_MEMORY_SIZE, ROOM = 16, GUARD = 32, WATCH = 0xc3 };
 
 static unsigned checks, wrong;
 
@@ -41,6 +41,8 @@ static struct {
     uint8_t d[GUARD];
     uint8_t sheet[SHEET + 4];
     uint8_t e[GUARD];
+    uint8_t target[SHEET + 4];
+    uint8_t f[GUARD];
 } at, before, after;
 static const uint8_t device[4] = {0x11, 0x22, 0x33, 0x44};
 static am9517_chip *const chip = &at.chip;
@@ -58,9 +60,11 @@ static void begin(void)
     memset(at.c, WATCH, sizeof at.c);
     memset(at.d, WATCH, sizeof at.d);
     memset(at.e, WATCH, sizeof at.e);
+    memset(at.f, WATCH, sizeof at.f);
     memset(at.memory, 0x55, sizeof at.memory);
     memset(at.room, 0xee, sizeof at.room);
     memset(at.sheet, 0xdd, sizeof at.sheet);
+    memset(at.target, 0xbb, sizeof at.target);
     at.chip = am9517_fresh(edition);
     before = at;
 }
@@ -75,7 +79,7 @@ static int watched(const uint8_t *guard)
 
 static int guards(void)
 {
-    return watched(at.a) && watched(at.b) && watched(at.c) && watched(at.d) && watched(at.e);
+    return watched(at.a) && watched(at.b) && watched(at.c) && watched(at.d) && watched(at.e) && watched(at.f);
 }
 
 static am9517_channel channel_of(uint16_t base_address, uint16_t address, uint16_t base_count, uint16_t count, uint8_t mode)
@@ -102,7 +106,7 @@ static int same_chip(const am9517_chip *p, const am9517_chip *q)
 static int areas_stay(void)
 {
     return memcmp(at.memory, before.memory, sizeof at.memory) == 0 && memcmp(at.room, before.room, sizeof at.room) == 0
-           && memcmp(at.sheet, before.sheet, sizeof at.sheet) == 0;
+           && memcmp(at.sheet, before.sheet, sizeof at.sheet) == 0 && memcmp(at.target, before.target, sizeof at.target) == 0;
 }
 
 static void all_stay(const char *what, unsigned long which)
@@ -114,7 +118,7 @@ static void all_stay(const char *what, unsigned long which)
 
 /* ---- calls by number, so that each bad chip can be given to all of them: the refusal; other numbers must be 0 with it */
 
-enum { CALLS = 12, LOAD = 12 };
+enum { CALLS = 13, LOAD = 13, LOAD2 = 14 };
 
 static am9517_run_told run_all(uint64_t limit, uint64_t eop_at)
 {
@@ -162,7 +166,9 @@ static uint32_t call(int which)
     case 9: return round_alone(round_all(1));
     case 10: return am9517_save(chip, at.sheet, sizeof at.sheet);
     case 11: return am9517_waits(chip, 1);
-    default: return am9517_load(chip, at.sheet, sizeof at.sheet);
+    case 12: return am9517_save2(chip, at.sheet, sizeof at.sheet);
+    case LOAD: return am9517_load(chip, at.sheet, sizeof at.sheet);
+    default: return am9517_load2(chip, at.sheet, sizeof at.sheet);
     }
 }
 
@@ -179,7 +185,7 @@ static void out_of_range(const char *what)
     expect(am9517_waits(chip, 0) == 1 && am9517_waits(chip, 255) == 1 && am9517_waits(chip, chip->waits) == 1, what, 96);
     expect(am9517_run(chip, NULL, 0, NULL, 0, NULL, 0, 1, 0).refusal == 1, what, 91);
     expect(am9517_round(chip, NULL, 0, NULL, 0, NULL, 0, 5000).refusal == 1, what, 92);
-    expect(am9517_save(chip, NULL, 0) == 1, what, 93);
+    expect(am9517_save(chip, NULL, 0) == 1 && am9517_save2(chip, NULL, 0) == 1, what, 93);
     all_stay(what, 94);
 }
 
@@ -290,6 +296,7 @@ static void texts(void)
     expect(strcmp(am9517_reason_text(8), am9517_reason_text(0xffffffffu)) == 0, "no reason", 0);
     expect(strcmp(am9517_refusal_text(3), "register access, waits, grant or round during a service") == 0, "the refusal of waits", 0);
     expect(strcmp(am9517_refusal_text(4), "read of 9, A, B, C, E, F, or write of E in an Am9517A") == 0, "the refusal of E", 0);
+    expect(strcmp(am9517_refusal_text(9), "slice under 56 bytes for a sheet (58 in form 2)") == 0, "the refusal of a short slice", 0);
     expect(strcmp(am9517_refusal_text(14), "sheet fault: range") == 0, "the last fault of a sheet", 0);
     expect(strcmp(am9517_refusal_text(15), "form 1 has no place for edition and waits") == 0, "the last refusal", 0);
     expect(strcmp(am9517_reason_text(7), "quiet") == 0, "the last reason", 0);
@@ -483,13 +490,14 @@ static void rounds(void)
 
 /* ---- sheets */
 
-static void seal(uint8_t *sheet)
+/* The sum of so many body bytes, behind form and distance. */
+static void seal(uint8_t *sheet, size_t body)
 {
     unsigned sum = 0;
-    for (int i = 0; i < 48; i++)
+    for (size_t i = 0; i < body; i++)
         sum += sheet[i];
-    sheet[52] = (uint8_t)(sum & 255);
-    sheet[53] = (uint8_t)(sum >> 8);
+    sheet[body + 4] = (uint8_t)(sum & 255);
+    sheet[body + 5] = (uint8_t)(sum >> 8);
 }
 
 static void saved(void)
@@ -516,7 +524,7 @@ static void damaged(int place, uint8_t byte, int sealed, uint32_t number, const 
     am9517_save(&fresh, at.sheet, sizeof at.sheet);
     at.sheet[4 + place] = byte;
     if (sealed)
-        seal(at.sheet + 4);
+        seal(at.sheet + 4, 48);
     before = at;
     refused(call(LOAD), number, what);
 }
@@ -746,7 +754,7 @@ static void edition_kept(void)
     expect(am9517_write(chip, 13, 0xff) == AM9517_OK && is_fresh(chip, edition), "master clear keeps the edition", chip->edition);
 }
 
-/* An Intel chip has no sheet: 1, 9, 15 in this order, and not a byte is written. */
+/* An Intel chip has no sheet of form 1: 1, 9, 15 in this order, and not a byte is written. */
 static void intel_sheets(void)
 {
     edition = AM9517_EDITION_INTEL_8237A;
@@ -762,7 +770,7 @@ static void intel_sheets(void)
     refused(am9517_save(chip, at.sheet, 56), AM9517_STATE_RANGE, "save: 1 before 15");
 }
 
-/* A sheet is an Am9517A's, whatever the chip was; refused, it leaves the chip with its edition. */
+/* A sheet of form 1 is an Am9517A's, whatever the chip was; refused, it leaves the chip with its edition. */
 static void loaded_over(uint32_t was)
 {
     const am9517_chip fresh = am9517_fresh(AM9517_EDITION_AM9517A);
@@ -1153,7 +1161,7 @@ static void long_rounds(void)
 
 /* ---- wait states: sheets */
 
-/* A chip with waits has none: 1, 9, 15 in this order, and not a byte is written. */
+/* A chip with waits has none of form 1: 1, 9, 15 in this order, and not a byte is written. */
 static void slow_sheets(void)
 {
     for (unsigned w = 0; w < 256; w++) {
@@ -1180,7 +1188,7 @@ static void slow_sheets(void)
     expect(am9517_save(chip, at.sheet, SHEET) == (intel() ? AM9517_SHEET_NO_PLACE : AM9517_OK), "save where the waits are gone", 0);
 }
 
-/* A sheet tells of no waits, whatever the chip had; refused, it leaves them. */
+/* A sheet of form 1 tells of no waits, whatever the chip had; refused, it leaves them. */
 static void slow_loads(void)
 {
     const am9517_chip fresh = am9517_fresh(AM9517_EDITION_AM9517A);
@@ -1258,7 +1266,7 @@ static void pad(am9517_chip *c, int byte)
 static void padding(void)
 {
     static const int bytes[] = {0x00, 0xff, 0xa5};
-    for (int which = 0; which <= LOAD; which++)
+    for (int which = 0; which <= LOAD2; which++)
         for (int open = 0; open < 2; open++) {
             am9517_chip first = am9517_fresh(edition);
             uint32_t said = 0;
@@ -1270,6 +1278,8 @@ static void padding(void)
                 const am9517_chip fresh = am9517_fresh(AM9517_EDITION_AM9517A);
                 if (which == LOAD)
                     am9517_save(&fresh, at.sheet, sizeof at.sheet);
+                if (which == LOAD2)
+                    am9517_save2(&fresh, at.sheet, sizeof at.sheet);
                 pad(chip, bytes[i]);
                 const uint32_t now = call(which);
                 expect(i == 0 || (now == said && same_chip(chip, &first)), "padding says something", (unsigned long)which);
@@ -1286,10 +1296,12 @@ static void padding(void)
 static const am9517_chip still[4] = {STILL(AM9517_EDITION_AM9517A, 0), STILL(AM9517_EDITION_INTEL_8237A, 0), STILL(AM9517_EDITION_AM9517A, 255),
                                      STILL(AM9517_EDITION_INTEL_8237A, 1)};
 
+/* The body of their sheets. */
+static const uint8_t still_body[48] = {1, 0, 2, 0, 3, 0, 4, 0, 0x84, 5, 0, 6, 0, 7, 0, 8, 0, 0x44, 9, 0, 10, 0, 11, 0, 12, 0, 0, 13, 0,
+                                       14, 0, 15, 0, 16, 0, 0xc0, 0x10, 1, 0, 14, 0x5a, 0, 3, 2, 1, 0, 1, 0x12};
+
 static void looks(void)
 {
-    static const uint8_t body[48] = {1, 0, 2, 0, 3, 0, 4, 0, 0x84, 5, 0, 6, 0, 7, 0, 8, 0, 0x44, 9, 0, 10, 0, 11, 0, 12, 0, 0, 13, 0,
-                                     14, 0, 15, 0, 16, 0, 0xc0, 0x10, 1, 0, 14, 0x5a, 0, 3, 2, 1, 0, 1, 0x12};
     begin();
     for (int i = 0; i < 4; i++) {
         expect(am9517_check(&still[i]) == AM9517_OK, "check of a constant", 0);
@@ -1299,8 +1311,359 @@ static void looks(void)
     for (int i = 1; i < 4; i++)
         expect(am9517_save(&still[i], at.sheet + 4, SHEET) == AM9517_SHEET_NO_PLACE && areas_stay(), "no save of such a constant", (unsigned long)i);
     expect(am9517_save(&still[0], at.sheet + 4, SHEET) == AM9517_OK, "save of a constant", 0);
-    expect(memcmp(at.sheet + 4, body, sizeof body) == 0, "the sheet's layout", 0);
+    expect(memcmp(at.sheet + 4, still_body, sizeof still_body) == 0, "the sheet's layout", 0);
     expect(am9517_load(chip, at.sheet + 4, SHEET) == AM9517_OK && same_chip(chip, &still[0]), "and back", 0);
+}
+
+/* ---- sheets of both forms: what a form has, and its calls */
+
+enum { ROW = SHEET + 4 };  /* bytes of at.sheet and of at.target */
+
+typedef struct form {
+    size_t size, body;  /* bytes of a sheet, and of what its trailer seals */
+    uint8_t number;
+    uint32_t (*save)(const am9517_chip *, uint8_t *, size_t);
+    uint32_t (*load)(am9517_chip *, const uint8_t *, size_t);
+    uint32_t (*convert)(const uint8_t *, size_t, uint8_t *, size_t);  /* into the other form */
+} form;
+static const form forms[2] = {{SHEET, 48, 1, am9517_save, am9517_load, am9517_forward},
+                              {SHEET2, 50, 2, am9517_save2, am9517_load2, am9517_back}};
+static const form *const one = &forms[0], *const two = &forms[1];
+
+static const form *other_than(const form *f)
+{
+    return f == one ? two : one;
+}
+
+/* The sheet of this form lies at the end of at.sheet. */
+static uint8_t *sheet_of(const form *f)
+{
+    return at.sheet + ROW - f->size;
+}
+
+static int all_are(const uint8_t *bytes, size_t n, uint8_t byte)
+{
+    for (size_t i = 0; i < n; i++)
+        if (bytes[i] != byte)
+            return 0;
+    return 1;
+}
+
+static int target_stays(void)
+{
+    return all_are(at.target, ROW, 0xbb);
+}
+
+/* The chip's sheet of this form is put at the end of at.sheet, and the chip is one in service from now on. */
+static void put_sheet(const form *f, const am9517_chip *c)
+{
+    opened(0x84, 3);
+    chip->waits = 9;
+    expect(f->save(c, at.sheet, sizeof at.sheet) == AM9517_OK, "a sheet to begin with", f->number);
+    before = at;
+}
+
+/* ---- sheets of both forms: form 2 holds edition and waits */
+
+static void is_form_2(const uint8_t *sheet, const am9517_chip *c, const uint8_t *body, const char *what)
+{
+    unsigned sum = (unsigned)c->edition + c->waits;
+    for (int i = 0; i < 48; i++)
+        sum += body[i];
+    const uint8_t trailer[8] = {2, 0, 0x32, 0, (uint8_t)(sum & 255), (uint8_t)(sum >> 8), 0x44, 0x4d};
+    expect(sheet[0] == c->edition && sheet[1] == c->waits, what, sheet[0]);
+    expect(memcmp(sheet + 2, body, 48) == 0 && memcmp(sheet + 50, trailer, 8) == 0, what, sheet[50]);
+}
+
+/* Stored in form 2 and loaded over a broken chip, it is the same. */
+static void comes_back(const am9517_chip *c, const char *what)
+{
+    expect(am9517_save2(c, at.sheet, sizeof at.sheet) == AM9517_OK, what, c->edition);
+    memset(chip, 0xff, sizeof *chip);
+    expect(am9517_load2(chip, at.sheet, sizeof at.sheet) == AM9517_OK && same_chip(chip, c), what, c->waits);
+}
+
+static void second_sheets(void)
+{
+    static const uint8_t trailer[8] = {2, 0, 0x32, 0, 0x1a, 0, 0x44, 0x4d};
+    uint8_t body[48] = {0};
+    am9517_chip slow = am9517_fresh(AM9517_EDITION_INTEL_8237A);
+    slow.waits = 7;
+    body[39] = 15, body[43] = 3;
+    begin();
+    comes_back(&slow, "an Intel chip with 7 waits");
+    is_form_2(at.sheet + 2, &slow, body, "its sheet");
+    expect(at.sheet[2] == 1 && at.sheet[3] == 7 && memcmp(at.sheet + 52, trailer, 8) == 0, "byte by byte", at.sheet[3]);
+    expect(at.sheet[0] == 0xdd && at.sheet[1] == 0xdd && guards(), "save2 touched the front", at.sheet[1]);
+    for (int i = 0; i < 4; i++) {
+        begin();
+        comes_back(&still[i], "a constant");
+        is_form_2(at.sheet + 2, &still[i], still_body, "the layout of form 2");
+    }
+    for (unsigned all = 0; all < 1024; all++) {
+        am9517_chip c = all & 1 ? still[0] : am9517_fresh(AM9517_EDITION_AM9517A);
+        c.edition = all >> 1 & 1;
+        c.waits = (uint8_t)(all >> 2);
+        comes_back(&c, "every edition and every number of waits");
+    }
+    expect(guards() && target_stays(), "guards of form 2", 0);
+}
+
+/* A slice of each length: too short it is 9, else its last bytes alone are written, or read. */
+static void lengths(const form *f)
+{
+    uint8_t want[SHEET2];
+    expect(f->save(&still[0], want, f->size) == AM9517_OK, "a sheet alone", f->number);
+    for (size_t n = 0; n <= ROW; n++) {
+        const int good = n >= f->size;
+        begin();
+        expect(f->save(&still[0], n ? at.sheet : NULL, n) == (good ? AM9517_OK : AM9517_SHEET_SHORT), "save into so many bytes", (unsigned long)n);
+        expect(all_are(at.sheet, good ? n - f->size : n, 0xdd) && all_are(at.sheet + n, ROW - n, 0xdd), "bytes beside the sheet", (unsigned long)n);
+        expect(!good || memcmp(at.sheet + n - f->size, want, f->size) == 0, "the sheet at the end", (unsigned long)n);
+        put_sheet(f, &still[0]);
+        expect(f->load(chip, n ? at.sheet + ROW - n : NULL, n) == (good ? AM9517_OK : AM9517_SHEET_SHORT), "load from so many bytes", (unsigned long)n);
+        expect(same_chip(chip, good ? &still[0] : &before.chip) && areas_stay() && guards(), "what the load left", (unsigned long)n);
+    }
+}
+
+/* ---- sheets of both forms: converting */
+
+/* Source and target of all lengths: 9 where either is too short, else the target's last bytes alone are written. */
+static void all_lengths(const form *f)
+{
+    const form *to = other_than(f);
+    uint8_t want[SHEET2];
+    expect(to->save(&still[0], want, to->size) == AM9517_OK, "the other form's sheet", to->number);
+    put_sheet(f, &still[0]);
+    for (size_t n = 0; n <= ROW; n++)
+        for (size_t m = 0; m <= ROW; m++) {
+            const int good = n >= f->size && m >= to->size;
+            const uint32_t no = f->convert(n ? at.sheet + ROW - n : NULL, n, m ? at.target : NULL, m);
+            expect(no == (good ? AM9517_OK : AM9517_SHEET_SHORT), "of so many bytes into so many", (unsigned long)(n * 100 + m));
+            expect(all_are(at.target, good ? m - to->size : m, 0xbb) && all_are(at.target + m, ROW - m, 0xbb), "bytes beside it", (unsigned long)m);
+            expect(!good || memcmp(at.target + m - to->size, want, to->size) == 0, "the other form at the end", (unsigned long)m);
+            expect(memcmp(at.sheet, before.sheet, sizeof at.sheet) == 0 && guards(), "the source stays", (unsigned long)n);
+            memset(at.target, 0xbb, sizeof at.target);
+        }
+}
+
+/* A sheet goes into the other form and comes out of it: the same bytes, and the other form's own in between. */
+static void there_and_back(const form *f, const am9517_chip *c)
+{
+    const form *to = other_than(f);
+    uint8_t sheet[SHEET2], between[SHEET2], again[SHEET2];
+    expect(f->save(c, sheet, f->size) == AM9517_OK, "to be converted", f->number);
+    expect(f->convert(sheet, f->size, at.target, sizeof at.target) == AM9517_OK, "there", f->number);
+    expect(to->save(c, between, to->size) == AM9517_OK && memcmp(at.target + ROW - to->size, between, to->size) == 0, "as it is stored", f->number);
+    expect(all_are(at.target, ROW - to->size, 0xbb), "bytes before it", f->number);
+    expect(to->convert(at.target, sizeof at.target, again, f->size) == AM9517_OK && memcmp(sheet, again, f->size) == 0, "and back", f->number);
+    memset(at.target, 0xbb, sizeof at.target);
+}
+
+static void conversions(void)
+{
+    am9517_chip c = am9517_fresh(AM9517_EDITION_AM9517A);
+    begin();
+    for (int i = 0; i < 2; i++) {
+        there_and_back(&forms[i], &c);
+        there_and_back(&forms[i], &still[0]);
+    }
+    for (int i = 0; i < 500; i++) {
+        draw_chip(&c);
+        there_and_back(&forms[i % 2], &c);
+    }
+    expect(guards(), "guards of conversions", 0);
+}
+
+/* Back is refused by 15 exactly where edition or waits isn't 0, and not a byte of the target is written. */
+static void no_way_back(void)
+{
+    for (unsigned all = 0; all < 512; all++) {
+        am9517_chip c = still[0];
+        c.edition = all & 1;
+        c.waits = (uint8_t)(all >> 1);
+        if (all == 0)
+            continue;
+        put_sheet(two, &c);
+        expect(am9517_back(at.sheet, sizeof at.sheet, at.target, sizeof at.target) == AM9517_SHEET_NO_PLACE, "back of edition or waits", all);
+        expect(target_stays() && memcmp(at.sheet, before.sheet, sizeof at.sheet) == 0 && guards(), "15 changed an area", all);
+    }
+    refused(am9517_back(at.sheet, sizeof at.sheet, at.target, 55), AM9517_SHEET_SHORT, "back: 9 before 15");
+}
+
+/* ---- sheets of both forms: damage */
+
+/* A sheet of this form in at.sheet is refused by these numbers: by its own reader and converter, and by the other form's. */
+static void refused_by_all(const form *f, uint32_t own, uint32_t others, const char *what, unsigned long which)
+{
+    const form *g = other_than(f);
+    expect(f->load(chip, at.sheet, sizeof at.sheet) == own, what, which);
+    expect(f->convert(at.sheet, sizeof at.sheet, at.target, sizeof at.target) == own, what, which);
+    expect(g->load(chip, at.sheet, sizeof at.sheet) == others, what, which);
+    expect(g->convert(at.sheet, sizeof at.sheet, at.target, sizeof at.target) == others, what, which);
+    expect(same_chip(chip, &before.chip) && target_stays(), what, which);
+}
+
+/* What the own reader says of one changed byte. */
+static uint32_t own_fault(const form *f, size_t place)
+{
+    static const uint8_t trailer[8] = {11, 11, 12, 12, 13, 13, 10, 10};
+    return place < f->body ? 13 : trailer[place - f->body];
+}
+
+/* And the other form's: it is still not its form, or, if that byte was changed so, not its distance. */
+static uint32_t others_fault(const form *f, size_t place, unsigned byte)
+{
+    if (place >= f->body + 6)
+        return AM9517_SHEET_END_MARK;
+    return place == f->body && byte == other_than(f)->number ? AM9517_SHEET_DISTANCE : AM9517_SHEET_FORM;
+}
+
+/* Every byte of a good sheet, changed to every other one. */
+static void changed_bytes(const form *f, const am9517_chip *c)
+{
+    put_sheet(f, c);
+    uint8_t *const sheet = sheet_of(f);
+    for (size_t place = 0; place < f->size; place++) {
+        const uint8_t good = sheet[place];
+        for (unsigned byte = 0; byte < 256; byte++) {
+            sheet[place] = (uint8_t)byte;
+            if (byte != good)
+                refused_by_all(f, own_fault(f, place), others_fault(f, place, byte), "a changed byte", (unsigned long)place);
+        }
+        sheet[place] = good;
+    }
+    expect(areas_stay() && guards(), "changed bytes changed others", f->number);
+    expect(f->load(chip, at.sheet, sizeof at.sheet) == AM9517_OK && same_chip(chip, c), "the sheet was good", f->number);
+}
+
+/* A sound sheet is refused by the other form's readers: by 11, or by 9 in fewer bytes than theirs. */
+static void other_forms(void)
+{
+    for (int i = 0; i < 4; i++) {
+        put_sheet(two, &still[i]);
+        refused(call(LOAD), AM9517_SHEET_FORM, "load of form 2");
+        refused(am9517_load(chip, at.sheet + 4, SHEET), AM9517_SHEET_FORM, "load of 56 bytes of form 2");
+        refused(am9517_forward(at.sheet, sizeof at.sheet, at.target, sizeof at.target), AM9517_SHEET_FORM, "forward of form 2");
+    }
+    put_sheet(one, &still[0]);
+    for (size_t n = SHEET; n <= ROW; n++) {
+        const uint32_t want = n < SHEET2 ? AM9517_SHEET_SHORT : AM9517_SHEET_FORM;
+        refused(am9517_load2(chip, at.sheet + ROW - n, n), want, "load2 of form 1");
+        refused(am9517_back(at.sheet + ROW - n, n, at.target, sizeof at.target), want, "back of form 1");
+    }
+}
+
+/* Several faults at once: bit 0 end mark, 1 form, 2 distance, 3 sum, 4 range. */
+static void damage(const form *f, unsigned faults)
+{
+    uint8_t *const sheet = sheet_of(f), *const trailer = sheet + f->body;
+    if (faults & 16) {
+        sheet[f->body - 5] = 4;  /* the lowest channel */
+        seal(sheet, f->body);
+    }
+    trailer[4] ^= (uint8_t)(faults & 8 ? 1 : 0);
+    trailer[2] ^= (uint8_t)(faults & 4 ? 1 : 0);
+    trailer[1] ^= (uint8_t)(faults & 2 ? 1 : 0);
+    trailer[7] ^= (uint8_t)(faults & 1 ? 1 : 0);
+}
+
+/* What converting says of a sheet that loading refuses by this number: 15 comes behind all of them. */
+static uint32_t behind(uint32_t number, int has_no_place)
+{
+    return number == 0 && has_no_place ? 15 : number;
+}
+
+/* The first of several faults is told, and 9 before all of them. */
+static void first_fault(const form *f, const am9517_chip *c, unsigned faults)
+{
+    const form *to = other_than(f);
+    uint32_t want = 0;
+    for (uint32_t n = 0; n < 5 && want == 0; n++)
+        want = faults >> n & 1 ? 10 + n : 0;
+    const uint32_t into = behind(want, f == two && (c->edition || c->waits));
+    put_sheet(f, c);
+    damage(f, faults);
+    before = at;
+    refused(f->convert(at.sheet, sizeof at.sheet, at.target, to->size - 1), AM9517_SHEET_SHORT, "9 of the target comes first");
+    refused(f->convert(sheet_of(f) + 1, f->size - 1, at.target, sizeof at.target), AM9517_SHEET_SHORT, "9 of the source comes first");
+    refused(f->load(chip, sheet_of(f) + 1, f->size - 1), AM9517_SHEET_SHORT, "9 of a load comes first");
+    expect(f->convert(at.sheet, sizeof at.sheet, at.target, sizeof at.target) == into, "the first fault converting", faults);
+    expect(target_stays() == (into != AM9517_OK), "what is refused is not written", faults);
+    expect(f->load(chip, at.sheet, sizeof at.sheet) == want, "the first fault loading", faults);
+    expect(same_chip(chip, want == AM9517_OK ? c : &before.chip) && guards(), "what is refused is not loaded", faults);
+}
+
+/* A sheet of form 2 with one byte changed and sealed anew breaks a range, or doesn't. */
+static void sealed(size_t place, uint8_t byte, uint32_t number, const char *what)
+{
+    const am9517_chip fresh = am9517_fresh(AM9517_EDITION_AM9517A);
+    put_sheet(two, &fresh);
+    sheet_of(two)[place] = byte;
+    seal(sheet_of(two), two->body);
+    before = at;
+    expect(am9517_load2(chip, at.sheet, sizeof at.sheet) == number, what, byte);
+    expect(number == AM9517_OK || same_chip(chip, &before.chip), what, byte);
+    const uint32_t into = behind(number, place < 2 && byte);
+    expect(am9517_back(at.sheet, sizeof at.sheet, at.target, sizeof at.target) == into, what, byte);
+    expect(target_stays() == (into != AM9517_OK) && guards(), what, byte);
+}
+
+static void ranges(void)
+{
+    static const struct { uint8_t place, most; } fields[] = {{37, 15}, {38, 15}, {39, 15}, {41, 1}, {42, 15}, {43, 3}};
+    for (unsigned byte = 0; byte < 256; byte++) {
+        sealed(0, (uint8_t)byte, byte > 1 ? AM9517_SHEET_RANGE : AM9517_OK, "the edition's range");
+        sealed(1, (uint8_t)byte, AM9517_OK, "any number of waits");
+        sealed(2 + 36, (uint8_t)byte, AM9517_OK, "any command");
+        for (size_t i = 0; i < sizeof fields / sizeof fields[0]; i++)
+            sealed(2u + fields[i].place, (uint8_t)byte, byte > fields[i].most ? AM9517_SHEET_RANGE : AM9517_OK, "a field's range");
+        for (size_t n = 0; n < 4; n++) {
+            const int bad = (byte & 3) != 0 || ((byte & 12) == 12 && byte < 192);
+            sealed(2 + 9 * n + 8, (uint8_t)byte, bad ? AM9517_SHEET_RANGE : AM9517_OK, "a mode's range");
+        }
+    }
+    sealed(2 + 44, 1, AM9517_OK, "in service");
+    sealed(2 + 44, 2, AM9517_SHEET_RANGE, "in service 2");
+    sealed(2 + 45, 1, AM9517_SHEET_RANGE, "serving while idle");
+    sealed(2 + 46, 1, AM9517_SHEET_RANGE, "latch full while idle");
+    sealed(2 + 47, 1, AM9517_SHEET_RANGE, "latch without its mark");
+}
+
+static void both_forms(void)
+{
+    edition = AM9517_EDITION_AM9517A;
+    second_sheets();
+    conversions();
+    no_way_back();
+    other_forms();
+    ranges();
+    for (int i = 0; i < 2; i++) {
+        lengths(&forms[i]);
+        all_lengths(&forms[i]);
+        changed_bytes(&forms[i], &still[0]);
+        for (unsigned faults = 0; faults < 32; faults++)
+            first_fault(&forms[i], &still[0], faults);
+    }
+    for (int i = 1; i < 4; i++) {
+        changed_bytes(two, &still[i]);
+        for (unsigned faults = 0; faults < 32; faults++)
+            first_fault(two, &still[i], faults);
+    }
+}
+
+/* A service of an Intel chip with waits is cut by its limit, stored in form 2, and gone on with by another chip. */
+static void loaded2(void)
+{
+    edition = AM9517_EDITION_INTEL_8237A;
+    opened(0x84, 3);
+    chip->waits = 7;
+    expect(run_all(2, 0).reason == AM9517_REASON_LIMIT, "cut", 2);
+    const am9517_chip kept = *chip;
+    comes_back(&kept, "stored in service");
+    const am9517_run_told r = am9517_run(chip, at.memory, MEMORY, device + 2, 2, NULL, 0, 65536, 1);
+    expect(r.reason == AM9517_REASON_ENDED && r.transfers == 1 && r.states == 3 + 7 && chip->tc == 1, "gone on with, and met by EOP", r.reason);
+    expect(guards(), "guards of form 2 in service", 0);
 }
 
 /* What an edition shares with the other, and what it does alone. */
@@ -1351,6 +1714,8 @@ int main(void)
     saved();
     loaded();
     looks();
+    both_forms();
+    loaded2();
     printf("%u checks, %u wrong\n", checks, wrong);
     return wrong != 0;
 }

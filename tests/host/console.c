@@ -1,10 +1,10 @@
 /* The rack console's line protocol, spoken through the C library: what the comparer plays against.
  *
  * `state BYTES` sets the chip's fields, whatever their ranges, and leaves its edition and waits; `full BYTES` sets these, too;
- * `state` and `full` show them; `sheet` and `load` are the library's. The chip stands between guard bytes. After each command
- * what the looking calls say is held to what the operations say of a copy, and a chip in its ranges must come back whole out of
- * its own sheet; an Intel chip or one with waits, which has none, must be refused by 15, and as an Am9517A without waits come
- * back out of that one's. */
+ * `state` and `full` show them; `sheet` and `load`, `sheet2` and `load2`, `forward` and `back` are the library's. The chip stands
+ * between guard bytes. After each command what the looking calls say is held to what the operations say of a copy, and a chip in
+ * its ranges must come back whole out of its own sheet of either form; an Intel chip or one with waits, which has none of form 1,
+ * must be refused by 15, and as an Am9517A without waits come back out of that one's, which converts both ways. */
 #include <stdio.h>
 #include <stdlib.h>
 #include <string.h>
@@ -118,18 +118,52 @@ static void get_full(am9517_chip *c, uint8_t *full)
     get_body(c, full + 2);
 }
 
-/* An Intel chip, or one with waits, has no sheet, and not a byte is written; nor has it one in too few bytes. */
+/* An Intel chip, or one with waits, has no sheet of form 1, and not a byte is written; nor has it one in too few bytes, nor out
+ * of its sheet of form 2. */
 static void look_at_no_sheet(void)
 {
-    uint8_t sheet[AM9517_SHEET_SIZE];
+    uint8_t sheet[AM9517_SHEET_SIZE], second[AM9517_SHEET2_SIZE];
     memset(sheet, 0x5a, sizeof sheet);
     if (am9517_save(chip, sheet, sizeof sheet) != AM9517_SHEET_NO_PLACE)
         fail("an Intel chip or one with waits is stored");
     if (am9517_save(chip, sheet, sizeof sheet - 1) != AM9517_SHEET_SHORT)
         fail("15 comes before 9");
+    if (am9517_save2(chip, second, sizeof second) != AM9517_OK)
+        fail("form 2 has no place for it");
+    if (am9517_back(second, sizeof second, sheet, sizeof sheet) != AM9517_SHEET_NO_PLACE)
+        fail("edition or waits are lost on the way back");
     for (size_t i = 0; i < sizeof sheet; i++)
         if (sheet[i] != 0x5a)
             fail("a refused sheet was written");
+}
+
+/* The chip's sheet of form 2 has it in full and gives it back, over a chip of the other edition. */
+static void look_at_second(void)
+{
+    uint8_t sheet[AM9517_SHEET2_SIZE], mine[FULL], theirs[FULL];
+    am9517_chip other = am9517_fresh(1u - chip->edition);
+    get_full(chip, mine);
+    if (am9517_save2(chip, sheet, sizeof sheet) != AM9517_OK || memcmp(sheet, mine, FULL) != 0)
+        fail("the sheet of form 2 is not the chip's");
+    if (am9517_load(&other, sheet, sizeof sheet) != AM9517_SHEET_FORM)
+        fail("form 2 is read as form 1");
+    if (am9517_load2(&other, sheet, sizeof sheet) != AM9517_OK)
+        fail("the chip's sheet of form 2 is refused");
+    get_full(&other, theirs);
+    if (memcmp(mine, theirs, FULL) != 0)
+        fail("the chip is another out of its sheet of form 2");
+}
+
+/* A chip's sheet of form 1 goes forward into its sheet of form 2, and comes back out of it. */
+static void look_at_ways(const am9517_chip *c, const uint8_t *sheet)
+{
+    uint8_t second[AM9517_SHEET2_SIZE], stored[AM9517_SHEET2_SIZE], first[AM9517_SHEET_SIZE];
+    if (am9517_save2(c, stored, sizeof stored) != AM9517_OK)
+        fail("no sheet of form 2 to compare with");
+    if (am9517_forward(sheet, sizeof first, second, sizeof second) != AM9517_OK || memcmp(second, stored, sizeof second) != 0)
+        fail("forward gives another sheet than save2");
+    if (am9517_back(stored, sizeof stored, first, sizeof first) != AM9517_OK || memcmp(first, sheet, sizeof first) != 0)
+        fail("back gives another sheet than save");
 }
 
 /* The sheet of an Am9517A of the chip's fields, without waits, has them in their places and gives them back, over a chip of
@@ -151,6 +185,7 @@ static void look_at_sheet(void)
     get_full(&other, theirs);
     if (memcmp(mine, theirs, FULL) != 0)
         fail("the chip is another out of its sheet");
+    look_at_ways(&copy, sheet);
 }
 
 /* A copy takes other waits exactly while it is idle, and nothing else of it changes. */
@@ -180,6 +215,7 @@ static void look(void)
     if (wrong != AM9517_OK)
         return;
     look_at_sheet();
+    look_at_second();
     if (chip->in_service)
         return;
     am9517_chip copy = *chip;
@@ -452,22 +488,39 @@ static int command_round(void)
     return 1;
 }
 
-static int command_sheet(void)
+static int command_sheet(uint32_t (*save)(const am9517_chip *, uint8_t *, size_t))
 {
     uint64_t n;
     if (!small(1, MOST, &n))
         return 0;
     memset(slice, 0xee, n);
-    if (!refused(am9517_save(chip, slice, n)))
+    if (!refused(save(chip, slice, n)))
         say_bytes("bytes", slice, n);
     return 1;
 }
 
-static int command_load(void)
+static int command_load(uint32_t (*load)(am9517_chip *, const uint8_t *, size_t))
 {
     if (!hex(words[1]))
         return 0;
-    done(am9517_load(chip, given, given_size));
+    done(load(chip, given, given_size));
+    return 1;
+}
+
+/* What is refused leaves the slice as it was. */
+static int command_convert(uint32_t (*convert)(const uint8_t *, size_t, uint8_t *, size_t))
+{
+    uint64_t n;
+    if (!hex(words[1]) || !small(2, MOST, &n))
+        return 0;
+    memset(slice, 0xee, n);
+    if (!refused(convert(given, given_size, slice, n))) {
+        say_bytes("bytes", slice, n);
+        return 1;
+    }
+    for (size_t i = 0; i < n; i++)
+        if (slice[i] != 0xee)
+            fail("a refused conversion wrote into its target");
     return 1;
 }
 
@@ -519,29 +572,33 @@ static int obey(void)
         return command_show(memory, ARRAY);
     if (is("out", 3))
         return command_show(room, room_size);
-    return is("state", 1)    ? command_show_state()
-           : is("state", 2)  ? command_state()
-           : is("full", 1)   ? command_show_full()
-           : is("full", 2)   ? command_full()
-           : is("fresh", 1)  ? command_fresh()
-           : is("fresh", 2)  ? command_fresh()
-           : is("reset", 1)  ? command_reset()
-           : is("help", 2)   ? command_help()
-           : is("write", 3)  ? command_write()
-           : is("read", 2)   ? command_read()
-           : is("pins", 2)   ? command_pins()
-           : is("waits", 2)  ? command_waits()
-           : is("grant", 1)  ? command_grant()
-           : is("memory", 2) ? command_memory()
-           : is("poke", 3)   ? command_poke()
-           : is("feed", 2)   ? command_feed()
-           : is("fill", 3)   ? command_fill()
-           : is("room", 3)   ? command_room()
-           : is("run", 3)    ? command_run()
-           : is("round", 2)  ? command_round()
-           : is("sheet", 2)  ? command_sheet()
-           : is("load", 2)   ? command_load()
-                             : 0;
+    return is("state", 1)     ? command_show_state()
+           : is("state", 2)   ? command_state()
+           : is("full", 1)    ? command_show_full()
+           : is("full", 2)    ? command_full()
+           : is("fresh", 1)   ? command_fresh()
+           : is("fresh", 2)   ? command_fresh()
+           : is("reset", 1)   ? command_reset()
+           : is("help", 2)    ? command_help()
+           : is("write", 3)   ? command_write()
+           : is("read", 2)    ? command_read()
+           : is("pins", 2)    ? command_pins()
+           : is("waits", 2)   ? command_waits()
+           : is("grant", 1)   ? command_grant()
+           : is("memory", 2)  ? command_memory()
+           : is("poke", 3)    ? command_poke()
+           : is("feed", 2)    ? command_feed()
+           : is("fill", 3)    ? command_fill()
+           : is("room", 3)    ? command_room()
+           : is("run", 3)     ? command_run()
+           : is("round", 2)   ? command_round()
+           : is("sheet", 2)   ? command_sheet(am9517_save)
+           : is("load", 2)    ? command_load(am9517_load)
+           : is("sheet2", 2)  ? command_sheet(am9517_save2)
+           : is("load2", 2)   ? command_load(am9517_load2)
+           : is("forward", 3) ? command_convert(am9517_forward)
+           : is("back", 3)    ? command_convert(am9517_back)
+                              : 0;
 }
 
 static void answer(char *line, size_t n, int is_long)

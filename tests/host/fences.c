@@ -7,7 +7,7 @@
 
 #include "am9517.h"
 
-enum { PAGE = 4096, MEMORY = AM9517_MEMORY_SIZE, MOST = 300, TURNS = 4000 };
+enum { PAGE = 4096, MEMORY = AM9517_MEMORY_SIZE, MOST = 300, TURNS = 6000 };
 
 /* ---- areas: one fenced, one free, of the same bytes; the free one begins anywhere, a chip at an even place */
 
@@ -90,7 +90,7 @@ static void draw_chip(am9517_chip *chip)
 
 /* ---- the calls, on the fenced make or on the free one */
 
-static struct area chip, memory, device, room, sheet;
+static struct area chip, memory, device, room, sheet, target;
 
 struct numbers {
     uint32_t which, reg, k;
@@ -98,10 +98,13 @@ struct numbers {
     uint64_t limit, eop;
 };
 
+enum { FORWARD = 11, BACK = 12, CALLS = 17 };
+
 static uint64_t call(int fenced, const struct numbers *n)
 {
     am9517_chip *c = (am9517_chip *)(void *)(fenced ? chip.at : chip.loose);
     uint8_t *m = fenced ? memory.at : memory.loose, *r = fenced ? room.at : room.loose, *s = fenced ? sheet.at : sheet.loose;
+    uint8_t *t = fenced ? target.at : target.loose;
     const uint8_t *d = fenced ? device.at : device.loose;
     switch (n->which) {
     case 0: return am9517_write(c, n->reg, n->byte);
@@ -112,13 +115,17 @@ static uint64_t call(int fenced, const struct numbers *n)
     case 5: return am9517_save(c, s, sheet.size);
     case 6: return am9517_save(c, s, sheet.size) + 16 * am9517_load(c, s, sheet.size);
     case 7: {
-        const am9517_round_told t = am9517_round(c, m, memory.size, d, device.size, r, room.size, n->k);
-        return t.refusal + t.reason + t.transfers + 3 * t.used + 5 * t.written + 7 * t.states;
+        const am9517_round_told o = am9517_round(c, m, memory.size, d, device.size, r, room.size, n->k);
+        return o.refusal + o.reason + o.transfers + 3 * o.used + 5 * o.written + 7 * o.states;
     }
     case 8: return am9517_waits(c, n->byte);
+    case 9: return am9517_save2(c, s, sheet.size);
+    case 10: return am9517_save2(c, s, sheet.size) + 16 * am9517_load2(c, s, sheet.size);
+    case FORWARD: return am9517_save(c, s, sheet.size) + 16 * am9517_forward(s, sheet.size, t, target.size);
+    case BACK: return am9517_save2(c, s, sheet.size) + 16 * am9517_back(s, sheet.size, t, target.size);
     default: {
-        const am9517_run_told t = am9517_run(c, m, memory.size, d, device.size, r, room.size, n->limit, n->eop);
-        return t.refusal + t.reason + t.transfers + 3 * t.used + 5 * t.written + 7 * t.states;
+        const am9517_run_told o = am9517_run(c, m, memory.size, d, device.size, r, room.size, n->limit, n->eop);
+        return o.refusal + o.reason + o.transfers + 3 * o.used + 5 * o.written + 7 * o.states;
     }
     }
 }
@@ -135,11 +142,13 @@ static int same_chip(void)
 
 static int turn(uint32_t i)
 {
-    const struct numbers n = {drawn(13), drawn(17), drawn(20), (uint8_t)drawn(256), drawn(4) ? 65536 : drawn(50), drawn(4) ? 0 : drawn(50)};
+    const struct numbers n = {drawn(CALLS), drawn(17), drawn(20), (uint8_t)drawn(256), drawn(4) ? 65536 : drawn(50), drawn(4) ? 0 : drawn(50)};
     am9517_chip now;
     draw_chip(&now);
     if ((n.which == 7 || n.which == 8) && drawn(8) != 0)
         now.in_service = now.serving = 0;
+    if ((n.which == FORWARD || n.which == BACK) && drawn(4) != 0)
+        now.edition = now.waits = 0;
     const uint32_t even = 2 * drawn(8);
     memcpy(chip.free + even, &now, sizeof now);
     placed(&chip, sizeof now, i & 1, even);
@@ -147,14 +156,15 @@ static int turn(uint32_t i)
     placed(&device, drawn(MOST), i >> 2 & 1, drawn(16));
     placed(&room, drawn(MOST), i >> 3 & 1, drawn(16));
     placed(&sheet, 50 + drawn(20), i >> 4 & 1, drawn(16));
+    placed(&target, 50 + drawn(20), i >> 5 & 1, drawn(16));
     const uint64_t fenced = call(1, &n), free = call(0, &n);
-    return fenced == free && same_chip() && same(&memory) && same(&device) && same(&room) && same(&sheet);
+    return fenced == free && same_chip() && same(&memory) && same(&device) && same(&room) && same(&sheet) && same(&target);
 }
 
 int main(void)
 {
     unsigned wrong = 0;
-    if (!made(&chip, PAGE) || !made(&memory, MEMORY) || !made(&device, PAGE) || !made(&room, PAGE) || !made(&sheet, PAGE))
+    if (!made(&chip, PAGE) || !made(&memory, MEMORY) || !made(&device, PAGE) || !made(&room, PAGE) || !made(&sheet, PAGE) || !made(&target, PAGE))
         return 2;
     for (size_t i = 0; i < MEMORY; i++)
         memory.free[i] = (uint8_t)(i * 31 + i / 253);

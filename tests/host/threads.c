@@ -1,8 +1,9 @@
 /* Several threads at once: each with a chip, of either edition and with changing waits, and a memory of its own, which must end as
- * alone; and all looking at one chip. */
+ * alone; and all looking at one chip and at its sheet. */
 #include <pthread.h>
 #include <stdio.h>
 #include <stdlib.h>
+#include <string.h>
 
 #include "am9517.h"
 
@@ -10,6 +11,9 @@ enum { THREADS = 4, STEPS = 400 };
 
 static const am9517_chip shared = {
     {{1, 2, 3, 4, 0x84}, {5, 6, 7, 8, 0x44}, {9, 10, 11, 12, 0}, {13, 14, 15, 16, 0xc0}}, 1, 0, 14, 3, 1, 0, 1, 0x12, 2, 0, 0, 0x5a, 0x10, 0};
+
+/* Its sheet of form 1, made before the threads begin. */
+static uint8_t source[AM9517_SHEET_SIZE];
 
 struct job {
     uint32_t seed;
@@ -28,6 +32,16 @@ static uint64_t folded(uint64_t sum, uint64_t number)
     return (sum ^ number) * 0x100000001b3u;
 }
 
+/* Out of a source that all threads look at, and back. */
+static void convert(struct job *job, const uint8_t *sheet)
+{
+    uint8_t two[AM9517_SHEET2_SIZE], stored[AM9517_SHEET2_SIZE], one[AM9517_SHEET_SIZE];
+    if (am9517_save2(&shared, stored, sizeof stored) != 0 || am9517_forward(source, sizeof source, two, sizeof two) != 0)
+        job->wrong++;
+    if (memcmp(two, stored, sizeof two) != 0 || am9517_back(stored, sizeof stored, one, sizeof one) != 0 || memcmp(one, sheet, sizeof one) != 0)
+        job->wrong++;
+}
+
 static void look(struct job *job)
 {
     uint8_t sheet[AM9517_SHEET_SIZE];
@@ -35,17 +49,19 @@ static void look(struct job *job)
         job->wrong++;
     if (am9517_save(&shared, sheet, sizeof sheet) != 0 || sheet[0] != 1 || sheet[47] != 0x12)
         job->wrong++;
+    convert(job, sheet);
 }
 
 static uint64_t step(am9517_chip *chip, uint8_t *memory, uint32_t *seed)
 {
     static const uint8_t device[64] = {1, 2, 3};
     uint8_t room[64];
-    switch (drawn(seed) % 5) {
+    switch (drawn(seed) % 6) {
     case 0: return am9517_write(chip, drawn(seed) % 16, (uint8_t)drawn(seed));
     case 1: return am9517_pins(chip, drawn(seed) % 16);
     case 2: return am9517_grant(chip).value;
     case 3: return am9517_waits(chip, (uint8_t)drawn(seed));
+    case 4: return am9517_save2(chip, room, sizeof room) + 16 * am9517_load2(chip, room, sizeof room) + 256 * room[sizeof room - 4];
     default: {
         const am9517_run_told run = am9517_run(chip, memory, AM9517_MEMORY_SIZE, device, sizeof device, room, sizeof room, 40, 0);
         if (run.refusal == AM9517_NO_SERVICE)
@@ -76,7 +92,7 @@ int main(void)
 {
     struct job at_once[THREADS], alone[THREADS];
     pthread_t threads[THREADS];
-    unsigned wrong = 0;
+    unsigned wrong = am9517_save(&shared, source, sizeof source) != 0;
     for (uint32_t i = 0; i < THREADS; i++) {
         at_once[i].seed = alone[i].seed = i + 1;
         at_once[i].wrong = alone[i].wrong = 0;

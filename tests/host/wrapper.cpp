@@ -23,6 +23,8 @@ static_assert(!std::is_convertible_v<std::vector<int> &, Bytes>, "ints are no by
 static_assert(std::is_convertible_v<Bytes, ConstBytes> && !std::is_convertible_v<ConstBytes, Bytes>, "one way");
 static_assert(noexcept(std::declval<Chip &>().run({}, {}, {})) && noexcept(Chip()) && noexcept(Chip(Edition::am9517a)), "nothing throws");
 static_assert(noexcept(std::declval<Chip &>().waits(1)) && sizeof(am9517::Run::states) == 8 && sizeof(am9517::Round::states) == 8, "states in 64 bits");
+static_assert(noexcept(std::declval<Chip &>().load2({})) && noexcept(am9517::back({}, {})) && noexcept(am9517::forward({})), "nor do sheets");
+static_assert(sizeof(am9517::Sheet) == 56 && sizeof(am9517::Sheet2) == 58, "a sheet of each form");
 static_assert(!std::is_convertible_v<Edition, Chip> && !std::is_convertible_v<int, Edition>, "an edition is no chip, a number no edition");
 
 static unsigned checks, wrong;
@@ -183,6 +185,44 @@ static void sheets()
     expect(am9517::number_of(Refusal::sheet_no_place) == 15 && am9517::number_of(Reason::quiet) == 7, "numbers");
 }
 
+// Form 2: edition and waits are kept; and both ways between the forms.
+static void second_sheets()
+{
+    Chip chip(Edition::intel_8237a);
+    chip.fields().waits = 7;
+    std::vector<std::uint8_t> record(60, 0xdd);
+    expect(chip.save2(Bytes(record.data(), 57)).refusal() == Refusal::sheet_short && record[56] == 0xdd, "57 bytes");
+    expect(chip.save2(record).ok() && record[1] == 0xdd && record[2] == 1 && record[3] == 7 && record[59] == 0x4d, "form 2 at the end of a record");
+    Chip other;
+    expect(other.load2(record).ok() && other == chip && other.edition() == Edition::intel_8237a, "and back, with edition and waits");
+    expect(chip.load(record).refusal() == Refusal::sheet_form && chip == other, "form 2 is no form 1");
+    expect(am9517::forward(record).refusal() == Refusal::sheet_form, "nor goes forward");
+    std::vector<std::uint8_t> target(60, 0xbb);
+    const std::vector<std::uint8_t> untouched = target;
+    expect(am9517::back(record, target).refusal() == Refusal::sheet_no_place && target == untouched, "edition and waits have no way back");
+    expect(am9517::back(record).value() == am9517::Sheet{}, "nor by itself");
+    record[59] = 0;
+    expect(chip.load2(record).refusal() == Refusal::sheet_end_mark && chip == other, "end mark of form 2");
+    chip.fields().lowest = 4;
+    const auto none = chip.sheet2();
+    expect(none.refusal() == Refusal::state_range && none.value() == am9517::Sheet2{}, "no sheet out of range");
+}
+
+static void ways()
+{
+    const Chip chip = opened(0x84);
+    const am9517::Sheet one = chip.sheet().value();
+    const am9517::Sheet2 two = chip.sheet2().value();
+    expect(am9517::forward(one).ok() && am9517::forward(one).value() == two, "forward");
+    expect(am9517::back(two).ok() && *am9517::back(two) == one, "back");
+    std::vector<std::uint8_t> target(61, 0xbb);
+    expect(am9517::forward(one, target).ok() && target[2] == 0xbb && target[3] == 0 && target[60] == 0x4d, "forward at the end of a record");
+    expect(std::memcmp(target.data() + 3, two.data(), two.size()) == 0, "the same bytes");
+    expect(am9517::back(target, Bytes(target).after(70)).refusal() == Refusal::sheet_short, "back into nothing");
+    expect(am9517::forward(ConstBytes(one.data(), 55), target).refusal() == Refusal::sheet_short, "of 55 bytes");
+    expect(am9517::back(one).refusal() == Refusal::sheet_short && am9517::back({}).refusal() == Refusal::sheet_short, "of form 1");
+}
+
 int main()
 {
     spans();
@@ -192,6 +232,8 @@ int main()
     waits();
     rounds();
     sheets();
+    second_sheets();
+    ways();
     std::printf("%u checks of the wrapper, %u wrong\n", checks, wrong);
     return wrong != 0;
 }

@@ -7,5 +7,8 @@ int main()
     am9517::Chip chip;
     const auto grant = chip.grant();
     std::printf("library %u, header %u: %s\n", static_cast<unsigned>(am9517::version()), static_cast<unsigned>(AM9517_VERSION), grant.text());
-    return am9517::version() == AM9517_VERSION && grant.refusal() == am9517::Refusal::nobody ? 0 : 1;
+    const auto sheet = chip.sheet2();
+    const auto again = am9517::forward(am9517::back(sheet.value()).value());
+    const bool stored = sheet.ok() && again.ok() && sheet.value() == again.value();
+    return am9517::version() == AM9517_VERSION && grant.refusal() == am9517::Refusal::nobody && stored ? 0 : 1;
 }

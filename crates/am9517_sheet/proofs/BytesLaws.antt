@@ -1,19 +1,30 @@
 -- Laws of sums, of pieces put into a list, and of words among bytes.
 use Prim.Native.Nat.{ℕ, zero, suc, _+_, _-_, _≤_, _<_}
 use mathlib.Core.Path.{_≡_, refl, sym, ap, _∙_}
+use mathlib.Core.Bool.{Bool, true, false}
 use mathlib.Core.List.{List, [], _∷_, _++_, append-assoc, append-nil}
 use native.Mathlib.Omega.{arith}
 use native.Mathlib.Nat.{add-zero}
-use lib.ListN.{length, getD, take, drop, length-append, length-drop, drop-of-length-le, take-append-drop}
-use lib.Seq.{take-at, drop-at, drop-drop, drop-cons, take-all, take-length, length-take-le, take-append-seam, paste, length-paste, getD-append-add, getD-drop}
+use lib.Dec.{eqb}
+use lib.ListN.{length, getD, set, take, drop, length-append, drop-of-length-le, take-append-drop}
+use lib.Seq.{take-at, drop-at, drop-drop, drop-cons, take-all, take-length, length-take-le, take-append-seam, paste, length-paste, getD-append-add, getD-drop, getD-set-same, getD-set-other}
+use borrow.Author.Tests.{eqb-true, eqb-false}
 use Rattle.words.specs.Bytes.{wordOf, lowByte, highByte}
-use Rattle.am9517_sheet.specs.Bytes.{word, placed, last}
+use Rattle.am9517_sheet.specs.Bytes.{word, total, placed, last}
+
+pub total-append : (xs ys : List ℕ) → total (xs ++ ys) ≡ total xs + total ys
+unfolding total
+total-append [] ys = omega arith
+total-append (x ∷ xs) ys = omega (arith, total-append xs ys)
 
 pub placed-all : (d : List ℕ) (at : ℕ) (xs : List ℕ) → paste d at xs (length xs) ≡ placed d at xs
 placed-all d at xs = ap (λ (l : List ℕ). take at d ++ l ++ drop (at + length xs) d) (take-length xs)
 
 pub length-placed : (d : List ℕ) (at : ℕ) (xs : List ℕ) → at + length xs ≤ length d → length (placed d at xs) ≡ length d
 length-placed d at xs h = ap length (sym (placed-all d at xs)) ∙ length-paste d at xs (length xs) h (omega arith)
+
+pub placed-none : (d : List ℕ) (at : ℕ) → placed d at [] ≡ d
+placed-none d at = rw (append-nil (take at d), add-zero at) (take-append-drop at d)
 
 -- a piece put behind a piece is both put at once
 pub placed-next : (d : List ℕ) (at : ℕ) (xs ys : List ℕ) → at + length xs + length ys ≤ length d
@@ -46,7 +57,7 @@ placed-stands d one xs at n h size e =
 
 -- nothing stands behind a piece put at the end
 module _ (d xs : List ℕ) (n : ℕ) (size : length xs ≡ n) (room : n ≤ length d) where
-  placed-end : placed d (length d - n) xs ≡ take (length d - n) d ++ xs
+  pub placed-end : placed d (length d - n) xs ≡ take (length d - n) d ++ xs
   placed-end =
       let at = length d - n in
       let none : drop (at + length xs) d ≡ [] = drop-of-length-le d {i = at + length xs} (omega arith) in
@@ -58,10 +69,6 @@ module _ (d xs : List ℕ) (n : ℕ) (size : length xs ≡ n) (room : n ≤ leng
       let at = length d - n in
       let ends : length (placed d at xs) - n ≡ at = omega (arith, length-placed d at xs (omega arith)) in
       rw (ends, placed-end) (drop-at (take at d) xs at (length-take-le at d (omega arith)))
-
--- a list's end put there again leaves the list
-pub placed-self : (d : List ℕ) (n : ℕ) → n ≤ length d → placed d (length d - n) (last n d) ≡ d
-placed-self d n h = placed-end d (last n d) n (omega (arith, length-drop (length d - n) d)) h ∙ take-append-drop (length d - n) d
 
 -- A word and its two bytes.
 pub word-whole : (w : ℕ) → wordOf (lowByte w) (highByte w) ≡ w
@@ -86,6 +93,21 @@ word-drop xs n k =
 
 pub word-at-seam : (xs ys : List ℕ) → word (xs ++ ys) (length xs) ≡ word ys 0
 word-at-seam xs ys = ap (word (xs ++ ys)) (sym (add-zero (length xs))) ∙ word-behind xs ys 0
+
+-- a word where the element at place i is another: as it was where it doesn't stand in the word, else not
+pub word-kept : (xs : List ℕ) (i v w : ℕ) → ¬ (w ≡ i) → ¬ (w + 1 ≡ i) → word (set xs i v) w ≡ word xs w
+word-kept xs i v w low high = rw (getD-set-other xs i w v 0 low, getD-set-other xs i (w + 1) v 0 high)
+
+pub word-changed : (xs : List ℕ) (i v w : ℕ) → i < length xs → ¬ (v ≡ getD xs i 0) → w ≤ i → i ≤ w + 1 → ¬ (word (set xs i v) w ≡ word xs w)
+word-changed xs i v w h d from to same = go (eqb i w) refl
+  where
+    go : (t : Bool) → eqb i w ≡ t → ⊥
+    go true e =
+        let at = eqb-true i w e in
+        d (omega (arith, same, getD-set-same xs i v 0 h, ap (λ (n : ℕ). getD (set xs i v) n 0) at, ap (λ (n : ℕ). getD xs n 0) at, getD-set-other xs i (w + 1) v 0 (λ z. omega (arith, z, at))))
+    go false e =
+        let at : i ≡ w + 1 = omega (arith, eqb-false i w e) in
+        d (omega (arith, same, getD-set-same xs i v 0 h, ap (λ (n : ℕ). getD (set xs i v) n 0) at, ap (λ (n : ℕ). getD xs n 0) at, getD-set-other xs i w v 0 (λ z. omega (arith, z, at))))
 
 -- n elements from place k on, one by one
 abbrev pub cells : ℕ → ℕ → List ℕ → List ℕ

@@ -3,4 +3,5 @@ pub mod BytesLaws
 pub mod TrailerLaws
 pub mod BodyLaws
 pub mod SheetLaws
+pub mod ConvertLaws
 pub mod TripLaws

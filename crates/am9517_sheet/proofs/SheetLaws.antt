@@ -6,21 +6,22 @@ use mathlib.Core.List.{List}
 use native.Mathlib.Omega.{arith}
 use lib.Dec.{eqb}
 use lib.ListN.{length, length-append}
-use borrow.Author.Tests.{eqb-true, not-false, ltb-false, le-ltb}
+use borrow.Author.Tests.{eqb-true, not-false, ltb-false, le-ltb, ne-eqb}
 use Rattle.words.specs.Choice.{when}
 use Rattle.words.specs.Grounds.{first}
 use Rattle.am9517.specs.Ranges.{valid}
 use Rattle.am9517.specs.Refusals.{refusal}
 use Rattle.am9517.specs.declared.Controller.{Controller}
 use Rattle.am9517_sheet.specs.declared.SheetAnswer.the-variants.{Done, Refused}
+use Rattle.am9517_sheet.specs.declared.SheetRead.{SheetRead}
 use Rattle.am9517_sheet.specs.declared.forms.Form.{Form}
 use Rattle.am9517_sheet.specs.Bytes.{placed}
 use Rattle.am9517_sheet.specs.Form.{sheetSize}
 use Rattle.am9517_sheet.specs.Body.{bodyOf, exceeds, stateOf}
 use Rattle.am9517_sheet.specs.Trailer.{trailerOf, trailerGrounds}
-use Rattle.am9517_sheet.specs.Sheet.{sheetIn, sheetOf, sheetRefusalNumber, answerOf, stored, sheetWriteGrounds, sheetWriteOf, sheetReadGrounds, sheetReadOf}
+use Rattle.am9517_sheet.specs.Sheet.{sheetIn, sheetOf, sheetRefusalNumber, answerOf, Stored, stored, putUnless, sheetWriteGrounds, sheetWriteOf, sheetFaults, sheetReadGrounds, sheetReadOf}
 use Rattle.words.proofs.GroundLaws.{passed}
-use Rattle.am9517_sheet.proofs.TrailerLaws.{trailer-accepted}
+use Rattle.am9517_sheet.proofs.TrailerLaws.{trailer-accepted, trailer-told}
 use Rattle.am9517_sheet.proofs.BodyLaws.{body-length, state-of-body}
 
 -- the answer says the refusal's own number
@@ -31,6 +32,18 @@ number-said n = go (eqb n 0) refl
     go : (t : Bool) → eqb n 0 ≡ t → sheetRefusalNumber (when t Done (Refused n)) ≡ n
     go true e = sym (eqb-true _ _ e)
     go false e = refl
+
+-- what gives what a definition gives says that definition's number, too
+pub put-too : (n : ℕ) (form : Form) (s : Controller) (out : List ℕ) (w : Stored) → w ≡ putUnless n form s out → (w ≡ putUnless n form s out) × (sheetRefusalNumber (w .answer) ≡ n)
+put-too n form s out w e = (e, ap (λ (v : Stored). sheetRefusalNumber (v .answer)) e ∙ number-said n)
+
+pub write-too : (form : Form) (s : Controller) (out : List ℕ) (w : Stored) → w ≡ sheetWriteOf form s out
+    → (w ≡ sheetWriteOf form s out) × (sheetRefusalNumber (w .answer) ≡ refusal (sheetWriteGrounds form s (length out)))
+write-too form s out w e = put-too _ form s out w e
+
+pub read-too : (form : Form) (s : Controller) (bytes : List ℕ) (r : SheetRead) → r ≡ sheetReadOf form s bytes
+    → (r ≡ sheetReadOf form s bytes) × (sheetRefusalNumber (r .answer) ≡ refusal (sheetReadGrounds form bytes))
+read-too form s bytes r e = (e, ap (λ (x : SheetRead). sheetRefusalNumber (x .answer)) e ∙ number-said _)
 
 module _ (form : Form) where
   pub sheet-length : (s : Controller) → length (sheetOf form s) ≡ sheetSize form
@@ -66,6 +79,13 @@ module _ (form : Form) where
     unfolding answerOf when
     read-done t e = simp e
 
+    pub read-valid : refusal (sheetReadGrounds form bytes) ≡ 0 → valid (stateOf form (sheetIn form bytes)) ≡ true
+    unfolding refusal first
+    read-valid e =
+        let nine = passed _ _ _ (omega arith) e in
+        let told = trailer-told form (sheetIn form bytes) _ (nine .next) in
+        not-false _ (passed _ _ _ (omega arith) (told .rest) .test)
+
     pub read-room : refusal (sheetReadGrounds form bytes) ≡ 0 → sheetSize form ≤ length bytes
     unfolding refusal first
     read-room e = ltb-false _ _ (passed _ _ _ (omega arith) e .test)
@@ -74,11 +94,28 @@ module _ (form : Form) where
   abbrev pub refusedIn : List ℕ → ℕ
   refusedIn sheet = first (trailerGrounds form sheet) (when (not (valid (stateOf form sheet))) 14 0)
 
+  pub faults-in : (bytes : List ℕ) → refusal (sheetFaults form bytes) ≡ refusedIn (sheetIn form bytes)
+  unfolding refusal first when
+  faults-in bytes = refl
+
   -- a slice with room for a sheet is refused by what the sheet says
   pub refused-by-sheet : (bytes : List ℕ) → sheetSize form ≤ length bytes
       → refusal (sheetReadGrounds form bytes) ≡ refusedIn (sheetIn form bytes)
   unfolding refusal first when
   refused-by-sheet bytes h = rw (le-ltb _ _ h)
+
+  -- it is read by its faults, and told where there is none
+  module _ (s : Controller) (bytes : List ℕ) (room : sheetSize form ≤ length bytes) where
+    pub read-faults : refusal (sheetReadGrounds form bytes) ≡ refusal (sheetFaults form bytes)
+    read-faults = refused-by-sheet bytes room ∙ sym (faults-in bytes)
+
+    pub read-refused : (n : ℕ) → n ≡ refusal (sheetFaults form bytes) → ¬ (n ≡ 0) → record { controller = s; answer = Refused n } ≡ sheetReadOf form s bytes
+    unfolding answerOf when
+    read-refused n e h = simp (read-faults, sym e, ne-eqb n 0 h)
+
+    pub read-told : refusal (sheetFaults form bytes) ≡ 0 → record { controller = stateOf form (sheetIn form bytes); answer = Done } ≡ sheetReadOf form s bytes
+    unfolding answerOf when
+    read-told e = simp (read-faults, e)
 
   -- the sheet of a state in its ranges, of which all has a place in the form, is accepted
   pub sheet-accepted : (s : Controller) → length (s .channels) ≡ 4 → exceeds form s ≡ false → valid s ≡ true → refusedIn (sheetOf form s) ≡ 0

@@ -1,5 +1,5 @@
 -- What is written is read back, what is read is written back, and the fresh sheet is the printed one.
-use Prim.Native.Nat.{ℕ, _-_}
+use Prim.Native.Nat.{ℕ, _-_, _≤_}
 use mathlib.Core.Path.{_≡_, refl, sym, ap, _∙_}
 use mathlib.Core.Bool.{true}
 use mathlib.Core.List.{List, [], _∷_, _++_}
@@ -7,7 +7,6 @@ use native.Mathlib.Omega.{arith}
 use native.Mathlib.Nat.{add-zero}
 use lib.ListN.{length, take, drop, replicate, length-drop, take-append-drop}
 use lib.Seq.{getD-drop, length-take-le}
-use borrow.Author.Tests.{not-false}
 use Rattle.am9517.specs.Editions.{numberOf}
 use Rattle.am9517.specs.declared.Edition.the-variants.{Am9517A}
 use Rattle.am9517.specs.State.{fresh}
@@ -18,16 +17,15 @@ use Rattle.am9517_sheet.specs.declared.SheetAnswer.the-variants.{Done}
 use Rattle.am9517_sheet.specs.declared.SheetRead.{SheetRead}
 use Rattle.am9517_sheet.specs.declared.forms.Form.{Form}
 use Rattle.am9517_sheet.specs.declared.forms.Form.the-variants.{One}
-use Rattle.am9517_sheet.specs.Bytes.{word, total, placed, OfBytes}
+use Rattle.am9517_sheet.specs.Bytes.{word, total, placed, last, OfBytes}
 use Rattle.am9517_sheet.specs.Form.{bodySize, sheetSize}
 use Rattle.am9517_sheet.specs.Body.{bodyOf, stateOf}
 use Rattle.am9517_sheet.specs.Trailer.{trailerOf, withTrailer}
 use Rattle.am9517_sheet.specs.Sheet.{sheetIn, sheetOf, sheetRefusalNumber, Stored, stored, sheetWriteOf, sheetReadGrounds, sheetReadOf}
-use Rattle.words.proofs.GroundLaws.{passed}
-use Rattle.am9517_sheet.proofs.BytesLaws.{length-placed, last-placed, placed-self, word-drop, cells, all-cells}
+use Rattle.am9517_sheet.proofs.BytesLaws.{length-placed, last-placed, placed-end, word-drop, cells, all-cells}
 use Rattle.am9517_sheet.proofs.TrailerLaws.{trailer-told, trailer-bytes}
 use Rattle.am9517_sheet.proofs.BodyLaws.{state-of-body, told-within, body-of-state}
-use Rattle.am9517_sheet.proofs.SheetLaws.{number-said, sheet-length, write-done, write-room, write-valid, write-within, write-free, refusedIn, read-done, read-room, refused-by-sheet, sheet-accepted}
+use Rattle.am9517_sheet.proofs.SheetLaws.{number-said, sheet-length, write-done, write-room, write-valid, write-within, write-free, refusedIn, read-done, read-valid, read-room, refused-by-sheet, sheet-accepted}
 
 -- "The fresh sheet: all zero but byte 39 = 0Fh and 43 = 03h, then 01 00 30 00 12 00 44 4D."
 pub fresh-sheet : sheetOf One (fresh (numberOf Am9517A))
@@ -69,18 +67,42 @@ module _ (form : Form) where
       ∙ ap (λ (l : List ℕ). body ++ l) (tail ∙ sym (all-cells 8 behind (omega (arith, length-drop k sheet))))
       ∙ take-append-drop k sheet
 
-  -- What is read is written back: the slice stays as it was.
-  pub read-written : (t : Controller) (bytes : List ℕ) → OfBytes bytes → sheetReadOf form t bytes .answer ≡ Done
-      → sheetWriteOf form (sheetReadOf form t bytes .controller) bytes ≡ stored Done bytes
-  read-written t bytes byte done =
-      let free : refusal (sheetReadGrounds form bytes) ≡ 0 = sym (number-said _) ∙ ap sheetRefusalNumber done in
+  -- What an accepted sheet is: the sheet of the state that it tells, which is in its ranges.
+  pub record Good (bytes : List ℕ) : Type 0 where
+    pub room : sheetSize form ≤ length bytes
+    pub size : length (sheetIn form bytes) ≡ sheetSize form
+    pub state : valid (stateOf form (sheetIn form bytes)) ≡ true
+    pub same : sheetOf form (stateOf form (sheetIn form bytes)) ≡ sheetIn form bytes
+
+  pub good-sheet : (bytes : List ℕ) → OfBytes bytes → refusal (sheetReadGrounds form bytes) ≡ 0 → Good bytes
+  good-sheet bytes byte free =
       let room = read-room form bytes free in
       let at = length bytes - sheetSize form in
       let sheet = sheetIn form bytes in
       let fine : refusedIn form sheet ≡ 0 = sym (refused-by-sheet form bytes room) ∙ free in
-      let good : valid (stateOf form sheet) ≡ true = not-false _ (passed _ _ _ (omega arith) (trailer-told form sheet _ fine .rest) .test) in
-      let back : sheetOf form (stateOf form sheet) ≡ sheet =
-      sheet-of-state sheet (λ i. rw (getD-drop at bytes i 0) (byte _)) (omega (arith, length-drop at bytes)) fine in
-      ap (λ (r : SheetRead). sheetWriteOf form (r .controller) bytes) (read-done form bytes t free)
-      ∙ write-done form (stateOf form sheet) bytes (write-free form (stateOf form sheet) (length bytes) good room (told-within form sheet))
-      ∙ ap (stored Done) (rw back (placed-self bytes (sheetSize form) room))
+      let size : length sheet ≡ sheetSize form = omega (arith, length-drop at bytes) in
+      record {
+        room = room;
+        size = size;
+        state = read-valid form bytes free;
+        same = sheet-of-state sheet (λ i. rw (getD-drop at bytes i 0) (byte _)) size fine;
+      }
+
+  -- What is read is written back into any slice: its end becomes the sheet that was read.
+  pub read-copied : (t : Controller) (bytes out : List ℕ) → OfBytes bytes → sheetReadOf form t bytes .answer ≡ Done → sheetSize form ≤ length out
+      → sheetWriteOf form (sheetReadOf form t bytes .controller) out ≡ stored Done (take (length out - sheetSize form) out ++ last (sheetSize form) bytes)
+  read-copied t bytes out byte done room =
+      let free : refusal (sheetReadGrounds form bytes) ≡ 0 = sym (number-said _) ∙ ap sheetRefusalNumber done in
+      let state = ap (λ (r : SheetRead). r .controller) (read-done form bytes t free) in
+      let there = sheetIn form bytes in
+      let fine = good-sheet bytes byte free in
+      ap (λ (u : Controller). sheetWriteOf form u out) state
+      ∙ write-done form (stateOf form there) out (write-free form (stateOf form there) (length out) (fine .state) room (told-within form there))
+      ∙ ap (stored Done) (rw (fine .same) (placed-end out there (sheetSize form) (fine .size) room))
+
+  -- and into the slice that it was read from: it stays as it was
+  pub read-written : (t : Controller) (bytes : List ℕ) → OfBytes bytes → sheetReadOf form t bytes .answer ≡ Done
+      → sheetWriteOf form (sheetReadOf form t bytes .controller) bytes ≡ stored Done bytes
+  read-written t bytes byte done =
+      let room = read-room form bytes (sym (number-said _) ∙ ap sheetRefusalNumber done) in
+      read-copied t bytes bytes byte done room ∙ ap (stored Done) (take-append-drop (length bytes - sheetSize form) bytes)

@@ -47,17 +47,21 @@ stored a bs = record { answer = a; bytes = bs }
 abbrev pub sheetWriteGrounds : Form → Controller → ℕ → List (Ground ℕ)
 sheetWriteGrounds form s n = 1 if not (valid s) ∷ 9 if ltb n (sheetSize form) ∷ 15 if exceeds form s ∷ []
 
--- a refusal's number only, and the slice stays; else the sheet stands at the slice's end
-abbrev pub sheetWriteOf : Form → Controller → List ℕ → Stored
-sheetWriteOf form s out =
-    let no = refusal (sheetWriteGrounds form s (length out)) in
-    stored (answerOf no) (when (eqb no 0) (placed out (length out - sheetSize form) (sheetOf form s)) out)
+-- where n refuses, its number only, and the slice stays; else the sheet of state s stands at the slice's end
+abbrev pub putUnless : ℕ → Form → Controller → List ℕ → Stored
+putUnless n form s out = stored (answerOf n) (when (eqb n 0) (placed out (length out - sheetSize form) (sheetOf form s)) out)
 
--- "sheet reading 9 to 14 in order", of which 10 to 14 are the "sheet faults, below": those of its bytes, and "14 range", a state out of its ranges
+abbrev pub sheetWriteOf : Form → Controller → List ℕ → Stored
+sheetWriteOf form s out = putUnless (refusal (sheetWriteGrounds form s (length out))) form s out
+
+-- 10 to 14 are the "sheet faults, below": those of its bytes, and "14 range", a state out of its ranges
+abbrev pub sheetFaults : Form → List ℕ → List (Ground ℕ)
+sheetFaults form bytes = trailerGrounds form (sheetIn form bytes) ++ (14 if not (valid (stateOf form (sheetIn form bytes))) ∷ [])
+
+-- "sheet reading 9 to 14 in order". Document 02, A5: "Reading and writing form 2 keep 01's order, with 58 in refusal 9 and the edition's range
+-- under 14."
 abbrev pub sheetReadGrounds : Form → List ℕ → List (Ground ℕ)
-sheetReadGrounds form bytes =
-    9 if ltb (length bytes) (sheetSize form)
-    ∷ (trailerGrounds form (sheetIn form bytes) ++ (14 if not (valid (stateOf form (sheetIn form bytes))) ∷ []))
+sheetReadGrounds form bytes = 9 if ltb (length bytes) (sheetSize form) ∷ sheetFaults form bytes
 
 -- the state that the sheet tells; where it is refused, the state s as it was
 abbrev pub sheetReadOf : Form → Controller → List ℕ → SheetRead

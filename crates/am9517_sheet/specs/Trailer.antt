@@ -14,7 +14,8 @@ use Rattle.am9517_sheet.specs.Form.{number, bodySize}
 abbrev pub endMark : ℕ
 endMark = wordOf 0x44 0x4D
 
--- "Trailer, 8 bytes: 01, 00, distance back from trailer to body (30h, 00), sum of the body bytes (2 bytes), 44h, 4Dh"
+-- "Trailer, 8 bytes: 01, 00, distance back from trailer to body (30h, 00), sum of the body bytes (2 bytes), 44h, 4Dh"; document 02, A5:
+-- "the trailer says form 2 and distance 50"
 abbrev pub trailerOf : Form → List ℕ → List ℕ
 trailerOf form body = wordBytes (number form) ++ wordBytes (length body) ++ wordBytes (total body) ++ wordBytes endMark
 

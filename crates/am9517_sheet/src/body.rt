@@ -15,7 +15,7 @@ ghost use mathlib.Core.List.{map};
 ghost use Rattle.am9517.specs.Fields.{field, Edition, Waits};
 ghost use Rattle.am9517_sheet.specs.declared.forms.Form.the-variants.{One};
 ghost use Rattle.am9517_sheet.specs.Bytes.{placed};
-ghost use Rattle.am9517_sheet.specs.Form.{front, behind, channelPlace, bodySize};
+ghost use Rattle.am9517_sheet.specs.Form.{front, behind, channelsAt, channelPlace, bodySize};
 ghost use Rattle.am9517_sheet.specs.Body.{channelBytes, channelsBytes, channelAt, bodyOf, exceeds, fieldIn, stateOf};
 
 fn channel_bytes(c: Channel) -> [u8; 9]
@@ -72,13 +72,25 @@ fn store_channels(c: Controller, out: &mut [u8], at: usize) -> usize
     store_channel(c.channels[3], out, at)
 }
 
+// The fields before the channels, stored from place `start` on; the place behind them.
+fn store_front(form: Form, c: Controller, out: &mut [u8], start: usize) -> usize
+    requires { ⌜ start + channelsAt form ≤ length (now out) ⌝ }
+    ensures { λ r. ⌜ (now (out .exit) ≡ placed (now (out .entry)) start (map (field c) (front form))) × (r ≡ start + channelsAt form) ⌝ }
+{
+    match form {
+        Form::One => start,
+        Form::Two => store(out, start, &[c.edition, c.waits]),
+    }
+}
+
 // The body is stored from place `start` on.
 pub(crate) fn store_body(form: Form, c: Controller, out: &mut [u8], start: usize)
     requires { ⌜ start + bodySize form ≤ length (now out) ⌝ }
     ensures { λ _. ⌜ now (out .exit) ≡ placed (now (out .entry)) start (bodyOf form c) ⌝ }
 {
     let fields = field_bytes(c);
-    let at = store_channels(c, out, start + channels_at(form));
+    let at = store_front(form, c, out, start);
+    let at = store_channels(c, out, at);
     store(out, at, &fields);
 }
 
@@ -96,6 +108,7 @@ pub(crate) fn exceeds(form: Form, c: Controller) -> bool
 {
     match form {
         Form::One => (c.waits != 0) | (c.edition != 0),
+        Form::Two => false,
     }
 }
 
@@ -114,19 +127,23 @@ fn channel_at(b: &[u8], k: usize) -> Channel
 
 // The edition that a body tells: 0 where it has no place.
 fn edition_in(form: Form, b: &[u8]) -> u8
+    requires { ⌜ bodySize form ≤ length (now b) ⌝ }
     ensures { λ r. ⌜ r ≡ fieldIn (front form) 0 (now (b .entry)) Edition 0 ⌝ }
 {
     match form {
         Form::One => 0,
+        Form::Two => b[0],
     }
 }
 
 // Its wait states likewise.
 fn waits_in(form: Form, b: &[u8]) -> u8
+    requires { ⌜ bodySize form ≤ length (now b) ⌝ }
     ensures { λ r. ⌜ r ≡ fieldIn (front form) 0 (now (b .entry)) Waits 0 ⌝ }
 {
     match form {
         Form::One => 0,
+        Form::Two => b[1],
     }
 }
 

@@ -7,7 +7,7 @@ ghost use Prim.Native.Nat.{_+_, _<_, _≤_};
 ghost use lib.ListN.{length, take};
 ghost use Rattle.am9517_sheet.specs.Bytes.{word, total, placed};
 ghost use Rattle.am9517_sheet.specs.ClosedSums.{fourOf, sixteenOf};
-ghost use Rattle.am9517_sheet.specs.Form.{bodySize};
+ghost use Rattle.am9517_sheet.specs.Form.{channelsAt, bodySize};
 
 // The word at place k.
 pub(crate) fn word(b: &[u8], k: usize) -> u16
@@ -39,6 +39,17 @@ fn sixteen(b: &[u8], k: usize) -> u16
     sum_of_four(b, k) + sum_of_four(b, k + 4) + sum_of_four(b, k + 8) + sum_of_four(b, k + 12)
 }
 
+// The sum of the bytes before the channels.
+fn front_sum(form: Form, b: &[u8]) -> u16
+    requires { ⌜ bodySize form ≤ length (now b) ⌝ }
+    ensures { λ r. ⌜ (r ≡ total (take (channelsAt form) (now (b .entry)))) × (r ≤ 510) ⌝ }
+{
+    match form {
+        Form::One => 0,
+        Form::Two => wide(b[0]) + wide(b[1]),
+    }
+}
+
 // The sum of a body's bytes. With no loop, it stays a function of its own and is compiled to vector code.
 pub(crate) fn sum(form: Form, b: &[u8]) -> u16
     requires { ⌜ bodySize form ≤ length (now b) ⌝ }
@@ -46,7 +57,7 @@ pub(crate) fn sum(form: Form, b: &[u8]) -> u16
 {
     let at = channels_at(form);
     let core = &b[at..];
-    sixteen(core, 0) + sixteen(core, 16) + sixteen(core, 32)
+    front_sum(form, b) + sixteen(core, 0) + sixteen(core, 16) + sixteen(core, 32)
 }
 
 // The piece is stored from place `at` on; the place behind it.

@@ -1,12 +1,23 @@
 // What a form of the sheet decides.
 ghost use mathlib.Core.Path.{_≡_};
-ghost use Rattle.am9517_sheet.specs.Form.{number, channelsAt, bodySize, sheetSize};
+ghost use Rattle.am9517_sheet.specs.Form.{other, number, channelsAt, bodySize, sheetSize};
 
 // Of form 1: the bytes of a body.
 pub const BODY: usize = 48;
 
 pub enum Form {
     One,
+    Two,
+}
+
+// The other of the two.
+pub(crate) fn other(form: Form) -> Form
+    ensures { λ r. ⌜ r ≡ other form ⌝ }
+{
+    match form {
+        Form::One => Form::Two,
+        Form::Two => Form::One,
+    }
 }
 
 // What the first two bytes of its trailer say.
@@ -15,6 +26,7 @@ pub(crate) fn number(form: Form) -> u16
 {
     match form {
         Form::One => 1,
+        Form::Two => 2,
     }
 }
 
@@ -24,6 +36,7 @@ pub(crate) fn channels_at(form: Form) -> usize
 {
     match form {
         Form::One => 0,
+        Form::Two => 2,
     }
 }
 

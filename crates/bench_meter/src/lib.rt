@@ -10,13 +10,14 @@ use am9517::Controller;
 use am9517::Edition;
 use am9517_service::round;
 use am9517_service::run;
+use am9517_sheet::Form;
 
 mod told;
 
 // The state of a sheet, a fresh one where the sheet is refused.
 fn state_in(bytes: &[u8]) -> Controller {
     let fresh = Controller::fresh(Edition::Am9517A);
-    let o = am9517_sheet::read(fresh, bytes);
+    let o = am9517_sheet::read(Form::One, fresh, bytes);
     o.controller
 }
 
@@ -36,7 +37,7 @@ pub extern "C" fn meter_nothing(first: &mut [u8], second: &[u8], times: u64) -> 
         last = c.temporary as u64;
         left -= 1;
     }
-    am9517_sheet::write(after[0], first);
+    am9517_sheet::write(Form::One, after[0], first);
     last
 }
 
@@ -65,7 +66,7 @@ pub extern "C" fn meter_write(
         last = answer_number(answer);
         left -= 1;
     }
-    am9517_sheet::write(after[0], first);
+    am9517_sheet::write(Form::One, after[0], first);
     last
 }
 
@@ -93,7 +94,7 @@ pub extern "C" fn meter_read(
         last = answer_number(answer);
         left -= 1;
     }
-    am9517_sheet::write(after[0], first);
+    am9517_sheet::write(Form::One, after[0], first);
     last
 }
 
@@ -126,7 +127,7 @@ pub extern "C" fn meter_run(
         last = told.states;
         left -= 1;
     }
-    am9517_sheet::write(after[0], first);
+    am9517_sheet::write(Form::One, after[0], first);
     all_of(tolds[0])
 }
 
@@ -158,6 +159,6 @@ pub extern "C" fn meter_round(
         last = told.states;
         left -= 1;
     }
-    am9517_sheet::write(after[0], first);
+    am9517_sheet::write(Form::One, after[0], first);
     all_of(tolds[0])
 }

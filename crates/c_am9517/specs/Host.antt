@@ -21,7 +21,7 @@ use Rattle.c_am9517.specs.Numbers.{told, toldOf, runToldOf, roundToldOf}
 
 -- major * 10000 + minor * 100 + patch
 abbrev pub version : ℕ
-version = 40000
+version = 40100
 
 -- a look is refused by 1, "the state breaks a range of the sheet section", and shows nothing then
 abbrev pub lookGrounds : Controller → List (Ground ℕ)
@@ -46,7 +46,7 @@ callOf o = left (o .controller) (toldOf (o .answer))
 abbrev pub loadOf : SheetRead → Left
 loadOf x = left (x .controller) (told (sheetRefusalNumber (x .answer)) 0)
 
--- A sheet written: the number said, and the lent bytes after it.
+-- A sheet written or converted: the number said, and the lent bytes after it.
 pub record Saved : Type 0 where
   pub refusal : ℕ
   pub sheet : List ℕ

@@ -11,12 +11,13 @@ use crate::numbers::wide;
 use am9517::Answer;
 use am9517::Controller;
 use am9517::Outcome;
+use am9517_sheet::Form;
 ghost use mathlib.Core.Path.{_≡_};
 ghost use Rattle.am9517.specs.Answers.{refusalNumber, writeOf, readOf, pinsOf, resetOf, waitsOf, grantOf};
 ghost use Rattle.am9517.specs.Serving.{entitled, setOf, status};
 ghost use Rattle.am9517_service.specs.Answers.{ranOf};
 ghost use Rattle.am9517_service.specs.RoundAnswers.{roundedOf};
-ghost use Rattle.am9517_sheet.specs.declared.forms.Form.the-variants.{One};
+ghost use Rattle.am9517_sheet.specs.declared.forms.Form.the-variants.{One, Two};
 ghost use Rattle.am9517_sheet.specs.Sheet.{sheetWriteOf, sheetReadOf};
 ghost use Rattle.c_am9517.specs.Numbers.{told};
 ghost use Rattle.c_am9517.specs.Host.{lookOf, left, callOf, loadOf, saved, saveOf, runLeft, runCallOf, roundLeft, roundCallOf};
@@ -173,20 +174,39 @@ pub(crate) fn round(
     RoundDone { controller, said }
 }
 
+// Sheets: of form 1, and of form 2.
 pub(crate) fn save(c: Controller, sheet: &mut [u8]) -> u32
     ensures { λ r. ⌜ saved r (now (sheet .exit)) ≡ saveOf (sheetWriteOf One c (now (sheet .entry))) ⌝ }
 {
-    sheet_number(am9517_sheet::write(c, sheet))
+    sheet_number(am9517_sheet::write(Form::One, c, sheet))
 }
 
-pub(crate) fn load(c: Controller, sheet: &[u8]) -> Done
-    ensures { λ r. ⌜ left (r .controller) (told (r .refusal) 0) ≡ loadOf (sheetReadOf One c (now (sheet .entry))) ⌝ }
+pub(crate) fn save2(c: Controller, sheet: &mut [u8]) -> u32
+    ensures { λ r. ⌜ saved r (now (sheet .exit)) ≡ saveOf (sheetWriteOf Two c (now (sheet .entry))) ⌝ }
 {
-    let held = am9517_sheet::read(c, sheet);
+    sheet_number(am9517_sheet::write(Form::Two, c, sheet))
+}
+
+fn load_in(form: Form, c: Controller, sheet: &[u8]) -> Done
+    ensures { λ r. ⌜ left (r .controller) (told (r .refusal) 0) ≡ loadOf (sheetReadOf form c (now (sheet .entry))) ⌝ }
+{
+    let held = am9517_sheet::read(form, c, sheet);
     let controller = held.controller;
     let answer = held.answer;
     Done {
         controller,
         refusal: sheet_number(answer),
     }
+}
+
+pub(crate) fn load(c: Controller, sheet: &[u8]) -> Done
+    ensures { λ r. ⌜ left (r .controller) (told (r .refusal) 0) ≡ loadOf (sheetReadOf One c (now (sheet .entry))) ⌝ }
+{
+    load_in(Form::One, c, sheet)
+}
+
+pub(crate) fn load2(c: Controller, sheet: &[u8]) -> Done
+    ensures { λ r. ⌜ left (r .controller) (told (r .refusal) 0) ≡ loadOf (sheetReadOf Two c (now (sheet .entry))) ⌝ }
+{
+    load_in(Form::Two, c, sheet)
 }

@@ -2,14 +2,16 @@
 // include/am9517.h tells the same in words.
 use am9517::Controller;
 use am9517::Edition;
+use am9517_sheet::Form;
 ghost use mathlib.Core.Path.{_≡_};
 ghost use Rattle.am9517.specs.State.{fresh};
 ghost use Rattle.am9517.specs.Answers.{writeOf, readOf, pinsOf, resetOf, waitsOf, grantOf};
 ghost use Rattle.am9517.specs.Serving.{entitled, setOf, status};
 ghost use Rattle.am9517_service.specs.Answers.{ranOf};
 ghost use Rattle.am9517_service.specs.RoundAnswers.{roundedOf};
-ghost use Rattle.am9517_sheet.specs.declared.forms.Form.the-variants.{One};
+ghost use Rattle.am9517_sheet.specs.declared.forms.Form.the-variants.{One, Two};
 ghost use Rattle.am9517_sheet.specs.Sheet.{sheetWriteOf, sheetReadOf};
+ghost use Rattle.am9517_sheet.specs.Convert.{convertOf};
 ghost use Rattle.c_am9517.specs.Numbers.{editionByte, told};
 ghost use Rattle.c_am9517.specs.Host.{version, lookOf, left, callOf, loadOf, saved, saveOf, runLeft, runCallOf, roundLeft, roundCallOf};
 
@@ -52,7 +54,7 @@ pub struct RoundTold {
 pub extern "C" fn am9517_version() -> u32
     ensures { λ r. ⌜ r ≡ version ⌝ }
 {
-    40000
+    40100
 }
 
 // A fresh chip of this edition; one of no edition is refused by 1 in every call but a load.
@@ -181,7 +183,7 @@ pub extern "C" fn am9517_round(
     done.said
 }
 
-// The chip's sheet is written at the end of the slice.
+// The chip's sheet of form 1 is written at the end of the slice.
 #[no_mangle]
 pub extern "C" fn am9517_save(chip: &Controller, sheet: &mut [u8]) -> u32
     ensures { λ r. ⌜ saved r (now (sheet .exit)) ≡ saveOf (sheetWriteOf One (now (chip .entry)) (now (sheet .entry))) ⌝ }
@@ -189,7 +191,7 @@ pub extern "C" fn am9517_save(chip: &Controller, sheet: &mut [u8]) -> u32
     calls::save(*chip, sheet)
 }
 
-// The sheet at the end of the slice is read into the chip.
+// The sheet of form 1 at the end of the slice is read into the chip.
 #[no_mangle]
 pub extern "C" fn am9517_load(chip: &mut Controller, sheet: &[u8]) -> u32
     ensures { λ r. ⌜ left (now (chip .exit)) (told r 0) ≡ loadOf (sheetReadOf One (now (chip .entry)) (now (sheet .entry))) ⌝ }
@@ -197,4 +199,37 @@ pub extern "C" fn am9517_load(chip: &mut Controller, sheet: &[u8]) -> u32
     let done = calls::load(*chip, sheet);
     *chip = done.controller;
     done.refusal
+}
+
+// The same in form 2, which holds the edition and the wait states.
+#[no_mangle]
+pub extern "C" fn am9517_save2(chip: &Controller, sheet: &mut [u8]) -> u32
+    ensures { λ r. ⌜ saved r (now (sheet .exit)) ≡ saveOf (sheetWriteOf Two (now (chip .entry)) (now (sheet .entry))) ⌝ }
+{
+    calls::save2(*chip, sheet)
+}
+
+#[no_mangle]
+pub extern "C" fn am9517_load2(chip: &mut Controller, sheet: &[u8]) -> u32
+    ensures { λ r. ⌜ left (now (chip .exit)) (told r 0) ≡ loadOf (sheetReadOf Two (now (chip .entry)) (now (sheet .entry))) ⌝ }
+{
+    let done = calls::load2(*chip, sheet);
+    *chip = done.controller;
+    done.refusal
+}
+
+// The sheet of form 1 at the end of `source` is written in form 2 at the end of `target`.
+#[no_mangle]
+pub extern "C" fn am9517_forward(source: &[u8], target: &mut [u8]) -> u32
+    ensures { λ r. ⌜ saved r (now (target .exit)) ≡ saveOf (convertOf Two (now (source .entry)) (now (target .entry))) ⌝ }
+{
+    numbers::sheet_number(am9517_sheet::convert(Form::Two, source, target))
+}
+
+// And one of form 2 in form 1.
+#[no_mangle]
+pub extern "C" fn am9517_back(source: &[u8], target: &mut [u8]) -> u32
+    ensures { λ r. ⌜ saved r (now (target .exit)) ≡ saveOf (convertOf One (now (source .entry)) (now (target .entry))) ⌝ }
+{
+    numbers::sheet_number(am9517_sheet::convert(Form::One, source, target))
 }

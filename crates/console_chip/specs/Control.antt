@@ -2,24 +2,20 @@
 use Prim.Native.Nat.{ℕ, _+_, _*_}
 use mathlib.Core.Bool.{Bool, false}
 use mathlib.Core.List.{List, [], _∷_, _++_}
-use lib.Dec.{eqb, leb}
-use lib.ListN.{length, getD, take, drop, replicate}
+use lib.Dec.{eqb}
+use lib.ListN.{length, getD, take, drop}
 use Rattle.words.specs.Choice.{when, _and_}
 use Rattle.am9517.specs.Fields.{put, Edition, Waits}
 use Rattle.am9517.specs.State.{fresh}
 use Rattle.am9517.specs.Answers.{writeOf, readOf, pinsOf, waitsOf}
 use Rattle.am9517.specs.declared.Controller.{Controller}
-use Rattle.am9517_sheet.specs.declared.SheetAnswer.{SheetAnswer}
-use Rattle.am9517_sheet.specs.declared.SheetAnswer.the-variants.{Done, Refused}
-use Rattle.am9517_sheet.specs.declared.SheetRead.{SheetRead}
 use Rattle.am9517_sheet.specs.declared.forms.Form.the-variants.{One}
 use Rattle.am9517_sheet.specs.Form.{bodySize}
 use Rattle.am9517_sheet.specs.Body.{bodyOf, stateOf}
-use Rattle.am9517_sheet.specs.Sheet.{sheetWriteOf, sheetReadOf}
 use Rattle.console_text.specs.Text.{codes}
 use Rattle.console_text.specs.Numbers.{numberOf}
 use Rattle.console_text.specs.Hex.{hexText, isBytes, bytesIn}
-use Rattle.console_chip.specs.Answers.{Reply, reply, errorReply, outcomeReply, okText, refusedText, bytesAnswer, numbered, wordMost}
+use Rattle.console_chip.specs.Answers.{Reply, reply, errorReply, outcomeReply, okText, numbered, wordMost}
 
 abbrev pub stateText : Controller → List ℕ
 stateText c = codes "state " ++ hexText (bodyOf One c)
@@ -65,26 +61,3 @@ abbrev pub fullReply : Controller → List ℕ → Reply
 fullReply c digits =
     let front = bytesIn (take 4 digits) in
     when (saysBytes digits (2 + bodySize One)) (reply (stateTold (getD front 0 0) (getD front 1 0) (drop 4 digits)) okText) (errorReply c)
-
--- a text where a sheet was written or read, or the refusal
-unfoldable pub sheetSaid : SheetAnswer → List ℕ → List ℕ
-sheetSaid Done text = text
-sheetSaid (Refused n) text = refusedText n
-
-unfoldable pub sheetText : Controller → ℕ → List ℕ
-sheetText c n = let s = sheetWriteOf One c (replicate n 238) in sheetSaid (s .answer) (bytesAnswer (s .bytes))
-
--- a reply that wants n bytes of an array of this length, where it has them
-abbrev pub within : ℕ → ℕ → Controller → Reply → Reply
-within spare n c r = when (leb n spare) r (errorReply c)
-
--- "a sheet is written into a slice of N bytes 0xEE (N at most 70,000)"
-abbrev pub sheetReply : Controller → List ℕ → Reply
-sheetReply c size = numbered (numberOf 70000 size) (λ (n : ℕ). reply c (sheetText c n)) (errorReply c)
-
-abbrev pub readSheet : SheetRead → Reply
-readSheet r = reply (r .controller) (sheetSaid (r .answer) okText)
-
--- "a sheet is read from these bytes"
-abbrev pub loadReply : Controller → List ℕ → Reply
-loadReply c digits = when (isBytes digits) (readSheet (sheetReadOf One c (bytesIn digits))) (errorReply c)

@@ -1,35 +1,30 @@
 // The commands on the controller.
 use crate::answers::Spoken;
 use crate::answers::agree;
-use crate::answers::bytes_said;
 use crate::answers::fault;
-use crate::answers::ok;
-use crate::answers::refused;
 use crate::answers::tell;
 use am9517::Controller;
 use am9517::Edition;
 use am9517_sheet::BODY;
-use am9517_sheet::SheetAnswer;
 use am9517_sheet::body_of;
 use am9517_sheet::state_of;
 use console_text::hex::is_bytes;
 use console_text::hex::store;
 use console_text::numbers::Number;
 use console_text::numbers::number_of;
-use console_text::page::copies;
 use console_text::page::hex;
 use console_text::page::text;
 ghost use mathlib.Core.Path.{_≡_};
-ghost use Prim.Native.Nat.{_*_, _≤_, _/_};
+ghost use Prim.Native.Nat.{_*_, _≤_};
 ghost use lib.ListN.{length, take};
 ghost use Rattle.am9517.specs.Editions.{numberOf};
 ghost use Rattle.am9517.specs.State.{fresh};
 ghost use Rattle.am9517.specs.Answers.{resetOf, grantOf};
 ghost use Rattle.console_text.specs.Text.{page, put};
 ghost use Rattle.console_text.specs.Hex.{bytesIn};
-ghost use Rattle.console_chip.specs.Answers.{okText, bytesAnswer, reply, outcomeReply, said, saying};
+ghost use Rattle.console_chip.specs.Answers.{okText, reply, outcomeReply, said, saying};
 ghost use mathlib.Core.Bool.{true, false};
-ghost use Rattle.console_chip.specs.Control.{stateText, fullText, freshReply, saysBytes, stateTold, fullReply, sheetSaid, sheetText, writeReply, readReply, pinsReply, stateReply, waitsReply, within, sheetReply, loadReply};
+ghost use Rattle.console_chip.specs.Control.{stateText, fullText, freshReply, saysBytes, stateTold, fullReply, writeReply, readReply, pinsReply, stateReply, waitsReply};
 
 // The largest register number, limit or count that a command takes.
 const WORD: u32 = 0xffff_ffff;
@@ -202,73 +197,4 @@ pub fn grant(c: Controller, out: &mut [u8], at: usize) -> Spoken
 {
     let done = c.grant();
     tell(out, at, done, true)
-}
-
-fn sheet_said(answer: SheetAnswer, bytes: &[u8], out: &mut [u8], at: usize) -> usize
-    ensures { λ r. ⌜ page (now (out .exit)) r ≡ put (page (now (out .entry)) at) (sheetSaid answer (bytesAnswer (now (bytes .entry)))) ⌝ }
-{
-    match answer {
-        SheetAnswer::Done => bytes_said(out, at, bytes),
-        SheetAnswer::Refused(n) => refused(out, at, n),
-    }
-}
-
-fn load_said(answer: SheetAnswer, out: &mut [u8], at: usize) -> usize
-    ensures { λ r. ⌜ page (now (out .exit)) r ≡ put (page (now (out .entry)) at) (sheetSaid answer okText) ⌝ }
-{
-    match answer {
-        SheetAnswer::Done => ok(out, at),
-        SheetAnswer::Refused(n) => refused(out, at, n),
-    }
-}
-
-// The sheet is written into the first n bytes of `spare`.
-fn sheet_of(c: Controller, n: usize, spare: &mut [u8], out: &mut [u8], at: usize) -> usize
-    requires { ⌜ n ≤ length (now spare) ⌝ }
-    ensures { λ r. ⌜ page (now (out .exit)) r ≡ put (page (now (out .entry)) at) (sheetText c n) ⌝ }
-{
-    let slice = &mut spare[0..n];
-    copies(slice, 0, n, 0xEE);
-    let answer = am9517_sheet::write(c, slice);
-    sheet_said(answer, slice, out, at)
-}
-
-pub fn sheet(c: Controller, size: &[u8], spare: &mut [u8], out: &mut [u8], at: usize) -> Spoken
-    ensures { λ r. ⌜ said r (now (out .exit)) ≡ saying (page (now (out .entry)) at) (within (length (now (spare .entry))) 70000 c (sheetReply c (now (size .entry)))) ⌝ }
-{
-    if spare.len() < 70000 {
-        return fault(out, at, c);
-    }
-    let said = number_of(size, 70000);
-    match said {
-        Number::Value(n) => {
-            let next = sheet_of(c, n as usize, spare, out, at);
-            Spoken {
-                controller: c,
-                at: next,
-            }
-        }
-        Number::Bad => fault(out, at, c),
-    }
-}
-
-pub fn load(c: Controller, digits: &[u8], spare: &mut [u8], out: &mut [u8], at: usize) -> Spoken
-    ensures { λ r. ⌜ said r (now (out .exit)) ≡ saying (page (now (out .entry)) at) (within (length (now (spare .entry))) (length (now (digits .entry)) / 2) c (loadReply c (now (digits .entry)))) ⌝ }
-{
-    let n = digits.len() / 2;
-    if spare.len() < n {
-        return fault(out, at, c);
-    }
-    if !is_bytes(digits) {
-        return fault(out, at, c);
-    }
-    store(spare, 0, digits);
-    let told = am9517_sheet::read(c, &spare[0..n]);
-    let controller = told.controller;
-    let answer = told.answer;
-    let next = load_said(answer, out, at);
-    Spoken {
-        controller,
-        at: next,
-    }
 }

@@ -8,6 +8,7 @@ use Rattle.words.specs.Choice.{when}
 use Rattle.am9517.specs.State.{fresh}
 use Rattle.am9517.specs.Answers.{resetOf, grantOf}
 use Rattle.am9517.specs.declared.Controller.{Controller}
+use Rattle.am9517_sheet.specs.declared.forms.Form.the-variants.{One, Two}
 use Rattle.console_text.specs.Text.{codes}
 use Rattle.console_text.specs.Lines.{cut, wordsIn}
 use Rattle.console_text.specs.Commands.{commandOf}
@@ -15,13 +16,14 @@ use Rattle.console_text.specs.declared.line.Words.{Words}
 use Rattle.console_text.specs.declared.forms.Command.{Command}
 use Rattle.console_text.specs.declared.forms.Command.the-variants.{Nothing, Chip, Arrays, Services, People, Unknown}
 use Rattle.console_text.specs.declared.forms.ChipCommand.{ChipCommand}
-use Rattle.console_text.specs.declared.forms.ChipCommand.the-variants.{State, SetState, Full, SetFull, Fresh, FreshOf, Write, Read, Pins, Reset, Waits, Grant, Sheet, Load}
+use Rattle.console_text.specs.declared.forms.ChipCommand.the-variants.{State, SetState, Full, SetFull, Fresh, FreshOf, Write, Read, Pins, Reset, Waits, Grant, Sheet, Load, Sheet2, Load2, Forward, Back}
 use Rattle.console_text.specs.declared.forms.ArrayCommand.{ArrayCommand}
 use Rattle.console_text.specs.declared.forms.ArrayCommand.the-variants.{Memory, Poke, Peek, Feed, Fill, Room, Out, Dump, Queue, Empty}
 use Rattle.console_text.specs.declared.forms.ServiceCommand.{ServiceCommand}
 use Rattle.console_text.specs.declared.forms.ServiceCommand.the-variants.{Run, Round}
 use Rattle.console_chip.specs.Answers.{okText, errorText, bytesAnswer, Reply, reply, outcomeReply}
-use Rattle.console_chip.specs.Control.{stateText, stateReply, fullText, fullReply, freshReply, writeReply, readReply, pinsReply, waitsReply, sheetReply, loadReply}
+use Rattle.console_chip.specs.Control.{stateText, stateReply, fullText, fullReply, freshReply, writeReply, readReply, pinsReply, waitsReply}
+use Rattle.console_chip.specs.Sheets.{sheetReply, loadReply, convertReply}
 use Rattle.console_arrays.specs.Arrays.{lentOf, lentText, peekText, Changed, changed, pokeOf, feedOf, fillOf, roomOf, positionOf}
 use Rattle.console_arrays.specs.Services.{Service, runReply, roundReply}
 use Rattle.console_dump.specs.Dump.{dumpOf}
@@ -41,8 +43,12 @@ chipReply Pins c one two = pinsReply c one
 chipReply Reset c one two = outcomeReply false (resetOf c)
 chipReply Waits c one two = waitsReply c one
 chipReply Grant c one two = outcomeReply true (grantOf c)
-chipReply Sheet c one two = sheetReply c one
-chipReply Load c one two = loadReply c one
+chipReply Sheet c one two = sheetReply One c one
+chipReply Load c one two = loadReply One c one
+chipReply Sheet2 c one two = sheetReply Two c one
+chipReply Load2 c one two = loadReply Two c one
+chipReply Forward c one two = convertReply Two c one two
+chipReply Back c one two = convertReply One c one two
 
 abbrev pub controlled : Held → Reply → Said
 controlled h r = said (having (r .controller) (h .memory) (h .lent) (h .queue) (h .room) (h .written)) (r .text)

@@ -74,6 +74,11 @@ fn room_limit(out: &mut [u8], at: usize, size: usize) -> usize {
     text(out, next, b" bytes\n")
 }
 
+// Whether a sheet is put into a slice of N bytes.
+fn stores(name: &[u8]) -> bool {
+    same(name, b"sheet") | same(name, b"sheet2") | same(name, b"forward") | same(name, b"back")
+}
+
 // The words are such as the form asks for, and yet it can't be done.
 fn limit(out: &mut [u8], at: usize, held: Held, name: &[u8], line: &[u8]) -> usize {
     if same(name, b"feed") | same(name, b"fill") {
@@ -109,7 +114,7 @@ fn limit(out: &mut [u8], at: usize, held: Held, name: &[u8], line: &[u8]) -> usi
         let next = named(out, at, line, 1);
         return text(out, next, b" is no command: help lists them\n");
     }
-    if same(name, b"room") | same(name, b"sheet") {
+    if same(name, b"room") | stores(name) {
         return text(out, at, b"N is 70000 at most\n");
     }
     text(

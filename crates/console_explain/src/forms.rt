@@ -78,9 +78,14 @@ fn fault_of_number(said: &[u8], most: u32) -> u8 {
     }
 }
 
+// A place where any word may stand.
+fn is_name(place: &[u8]) -> bool {
+    same(place, b"FILE") | same(place, b"FROM") | same(place, b"TO") | same(place, b"COMMAND")
+}
+
 // What is wrong with a word that stands in this place of a form; 0 for nothing.
 fn fault_of(place: &[u8], said: &[u8]) -> u8 {
-    if same(place, b"FILE") | same(place, b"COMMAND") {
+    if is_name(place) {
         return 0;
     }
     if same(place, b"HEX") {

@@ -4,6 +4,7 @@ mod faults;
 mod forms;
 mod refusals;
 mod say;
+mod sheets;
 
 use am9517::Controller;
 use console_text::line::same;
@@ -38,5 +39,5 @@ pub fn explain(
     }
     let c = held.controller;
     let end = answer.len() - 1;
-    refusal(c, held.lent, rows, &answer[8..end], out, at)
+    refusal(c, held.lent, rows, line, &answer[8..end], out, at)
 }

@@ -1,4 +1,5 @@
-// What a refusal's number means, and what of the state it comes from.
+// What a refusal's number means, and what of the state or of the line it comes from.
+use crate::sheets::of_sheet;
 use am9517::Controller;
 use am9517::modes::disabled;
 use am9517::modes::is_block;
@@ -78,43 +79,20 @@ fn broken(out: &mut [u8], at: usize, edition: u8) -> usize {
     text(out, next, b": 0 is Am9517A, 1 is Intel 8237A\n")
 }
 
-// What of the state has no place in a sheet: its edition, its waits.
-fn of_edition(out: &mut [u8], at: usize, edition: u8) -> usize {
-    if edition == 0 {
-        return at;
-    }
-    text(
-        out,
-        at,
-        b"    the state is an Intel 8237A's: full tells all of it\n",
-    )
-}
-
-fn of_waits(out: &mut [u8], at: usize, waits: u8) -> usize {
-    if waits == 0 {
-        return at;
-    }
-    let next = text(out, at, b"    each transfer waits ");
-    let next = decimal(out, next, waits as u64);
-    text(
-        out,
-        next,
-        b" states: full tells them, waits 0 while idle takes them away\n",
-    )
-}
-
-fn unplaced(out: &mut [u8], at: usize, c: Controller) -> usize {
-    let next = of_edition(out, at, c.edition);
-    of_waits(out, next, c.waits)
-}
-
-// What of the state it comes from, where its words don't tell.
-fn cause(out: &mut [u8], at: usize, c: Controller, lent: usize, number: &[u8]) -> usize {
+// What of the state or of the line it comes from, where its words don't tell.
+fn cause(
+    out: &mut [u8],
+    at: usize,
+    c: Controller,
+    lent: usize,
+    line: &[u8],
+    number: &[u8],
+) -> usize {
     if same(number, b"1") {
         return broken(out, at, c.edition);
     }
-    if same(number, b"15") {
-        return unplaced(out, at, c);
+    if same(number, b"9") | same(number, b"11") | same(number, b"15") {
+        return of_sheet(out, at, c, line, number);
     }
     if same(number, b"6") {
         return nobody(out, at, c);
@@ -151,6 +129,7 @@ pub(crate) fn refusal(
     c: Controller,
     lent: usize,
     rows: &[u8],
+    line: &[u8],
     number: &[u8],
     out: &mut [u8],
     at: usize,
@@ -161,5 +140,5 @@ pub(crate) fn refusal(
     let next = text(out, next, b": ");
     let next = meaning(out, next, rows, from);
     let next = text(out, next, b"\n");
-    cause(out, next, c, lent, number)
+    cause(out, next, c, lent, line, number)
 }

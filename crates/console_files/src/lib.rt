@@ -1,6 +1,6 @@
 // Commands with a file in the place of hexadecimal digits: `f.poke ADDR FILE` is `poke ADDR HEX` with the file's bytes,
-// `f.peek ADDR N FILE` is `peek ADDR N`, and its bytes go to the file. So the line is made one of the console's, in its own
-// array, and the console's answer counts. Nothing is promised but that this is safe and ends.
+// `f.peek ADDR N FILE` is `peek ADDR N`, and its bytes go to the file; `f.forward FROM TO` is both. So the line is made one of the
+// console's, in its own array, and the console's answer counts. Nothing is promised but that this is safe and ends.
 mod complaint;
 mod lines;
 mod read;

@@ -4,6 +4,7 @@ use crate::Task;
 use crate::complaint::complain_of;
 use crate::read::Read;
 use crate::read::read_file;
+use console_text::line::Span;
 use console_text::line::said;
 use console_text::line::same;
 use console_text::line::word;
@@ -18,28 +19,57 @@ const NAME: usize = 4000;
 // A longer line is an error to the console.
 const LONGEST: usize = 200000;
 
-// How a command names its file: by its only word, by its second, or by its third.
+// How a command names its file: by its only word, by its second, or by its third; two files by two words. Sheets are of form 1 or 2.
 enum Shape {
     Other,
     Reads(usize),
     Writes(usize),
     Stores,
+    Stores2,
+    Forward,
+    Back,
 }
 
 fn shape_of(name: &[u8]) -> Shape {
     if same(name, b"f.poke") {
         return Shape::Reads(2);
     }
-    if same(name, b"f.feed") | same(name, b"f.load") {
+    if same(name, b"f.feed") | same(name, b"f.load") | same(name, b"f.load2") {
         return Shape::Reads(1);
     }
     if same(name, b"f.peek") | same(name, b"f.out") {
         return Shape::Writes(3);
     }
+    sheet_shape_of(name)
+}
+
+fn sheet_shape_of(name: &[u8]) -> Shape {
     if same(name, b"f.sheet") {
         return Shape::Stores;
     }
+    if same(name, b"f.sheet2") {
+        return Shape::Stores2;
+    }
+    if same(name, b"f.forward") {
+        return Shape::Forward;
+    }
+    if same(name, b"f.back") {
+        return Shape::Back;
+    }
     Shape::Other
+}
+
+// The words behind the name; of a name that is none of these more than are counted.
+fn words_of(shape: Shape) -> usize {
+    match shape {
+        Shape::Other => 5,
+        Shape::Reads(count) => count,
+        Shape::Writes(count) => count,
+        Shape::Stores => 1,
+        Shape::Stores2 => 1,
+        Shape::Forward => 2,
+        Shape::Back => 2,
+    }
 }
 
 // The words of a line behind its name: how many, to four, and where the last of them stands.
@@ -95,30 +125,48 @@ fn failed(length: usize) -> Plan {
     }
 }
 
-// The file's bytes in the place of its name.
-fn reading(number: u64, line: &mut [u8], from: usize, to: usize, bytes: &mut [u8]) -> Plan
+// The file's bytes in the place of its name; the place behind them, or 0 where it can't be read.
+fn put_bytes(number: u64, line: &mut [u8], from: usize, to: usize, bytes: &mut [u8]) -> usize
     requires { ⌜ (from ≤ to) × (to ≤ length (now line)) ⌝ }
 {
     let read = read_file(number, &line[from..to], bytes);
     match read {
         Read::Whole(n) => {
             if bytes.len() < n {
-                return failed(to);
+                return 0;
             }
-            let length = bytes_said(line, from, &bytes[0..n]);
-            let task = Task::Console;
-            Plan {
-                task,
-                is_file: true,
-                length,
-                name: 0,
-            }
+            bytes_said(line, from, &bytes[0..n])
         }
-        Read::Failed => failed(to),
+        Read::Failed => 0,
     }
 }
 
-// The file's name is kept, and in its place stands what the console needs.
+fn reading(number: u64, line: &mut [u8], from: usize, to: usize, bytes: &mut [u8]) -> Plan
+    requires { ⌜ (from ≤ to) × (to ≤ length (now line)) ⌝ }
+{
+    let length = put_bytes(number, line, from, to, bytes);
+    if length == 0 {
+        return failed(to);
+    }
+    let task = Task::Console;
+    Plan {
+        task,
+        is_file: true,
+        length,
+        name: 0,
+    }
+}
+
+// The name of a file to be written is kept; its length, or 0 where it is too long.
+fn kept(number: u64, name: &[u8], path: &mut [u8]) -> usize {
+    if NAME < name.len() {
+        complain_of(number, b"a name of more than 4000 characters", b"\n");
+        return 0;
+    }
+    text(path, 0, name)
+}
+
+// In the place of the file's name stands what the console needs.
 fn writing(
     number: u64,
     line: &mut [u8],
@@ -129,12 +177,43 @@ fn writing(
 ) -> Plan
     requires { ⌜ (from ≤ to) × (to ≤ length (now line)) ⌝ }
 {
-    if NAME < to - from {
-        complain_of(number, b"a name of more than 4000 characters", b"\n");
+    let name = kept(number, &line[from..to], path);
+    if name == 0 {
         return failed(to);
     }
-    let name = text(path, 0, &line[from..to]);
     let length = text(line, from, instead);
+    let task = Task::Write;
+    Plan {
+        task,
+        is_file: true,
+        length,
+        name,
+    }
+}
+
+// In the place of the first name stand that file's bytes, in that of the second, the last word, what the console needs.
+fn converting(
+    number: u64,
+    line: &mut [u8],
+    source: Span,
+    target: Words,
+    instead: &[u8],
+    bytes: &mut [u8],
+    path: &mut [u8],
+) -> Plan
+    requires { ⌜ ((source .from ≤ source .to) × (source .to ≤ length (now line))) × ((target .from ≤ target .to) × (target .to ≤ length (now line))) ⌝ }
+{
+    let from = target.from;
+    let to = target.to;
+    let name = kept(number, &line[from..to], path);
+    if name == 0 {
+        return failed(to);
+    }
+    let next = put_bytes(number, line, source.from, source.to, bytes);
+    if next == 0 {
+        return failed(to);
+    }
+    let length = text(line, next, instead);
     let task = Task::Write;
     Plan {
         task,
@@ -147,6 +226,29 @@ fn writing(
 // The f and the dot before the console's own name.
 fn blank_front(line: &mut [u8], at: usize) {
     text(line, at, b"  ");
+}
+
+// A command with as many words as its name asks for, the first of them and the last.
+fn planned(
+    number: u64,
+    line: &mut [u8],
+    shape: Shape,
+    first: Span,
+    last: Words,
+    bytes: &mut [u8],
+    path: &mut [u8],
+) -> Plan
+    requires { ⌜ ((first .from ≤ first .to) × (first .to ≤ length (now line))) × ((last .from ≤ last .to) × (last .to ≤ length (now line))) ⌝ }
+{
+    match shape {
+        Shape::Other => as_it_is(last.to),
+        Shape::Reads(_) => reading(number, line, last.from, last.to, bytes),
+        Shape::Writes(_) => writing(number, line, last.from, last.to, b"", path),
+        Shape::Stores => writing(number, line, last.from, last.to, b"56", path),
+        Shape::Stores2 => writing(number, line, last.from, last.to, b"58", path),
+        Shape::Forward => converting(number, line, first, last, b" 58", bytes, path),
+        Shape::Back => converting(number, line, first, last, b" 56", bytes, path),
+    }
 }
 
 fn file_plan(
@@ -162,31 +264,13 @@ fn file_plan(
     requires { ⌜ (front ≤ behind) × (behind ≤ n) × (n ≤ length (now line)) ⌝ }
 {
     let shape = shape_of(&line[front..behind]);
+    let first = word(&line[0..n], behind);
     let words = words_behind(&line[0..n], behind);
-    match shape {
-        Shape::Other => as_it_is(size),
-        Shape::Reads(count) => {
-            if words.count != count {
-                return as_it_is(size);
-            }
-            blank_front(line, front);
-            reading(number, line, words.from, words.to, bytes)
-        }
-        Shape::Writes(count) => {
-            if words.count != count {
-                return as_it_is(size);
-            }
-            blank_front(line, front);
-            writing(number, line, words.from, words.to, b"", path)
-        }
-        Shape::Stores => {
-            if words.count != 1 {
-                return as_it_is(size);
-            }
-            blank_front(line, front);
-            writing(number, line, words.from, words.to, b"56", path)
-        }
+    if words.count != words_of(shape) {
+        return as_it_is(size);
     }
+    blank_front(line, front);
+    planned(number, line, shape, first, words, bytes, path)
 }
 
 fn is_leave(name: &[u8]) -> bool {

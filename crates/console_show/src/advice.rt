@@ -20,8 +20,20 @@ waits N             hold each transfer for N states more, 0 to 255
 grant               grant the first entitled channel a service
 run LIMIT EOP       run it: at most LIMIT transfers, transfer EOP meets EOP, 0 none
 round K             begin up to K services, grant then run
-sheet N             a sheet at the end of N bytes 0xee, N at most 70000
+",
+    )
+}
+
+fn rows_of_sheets(out: &mut [u8], at: usize) -> usize {
+    text(
+        out,
+        at,
+        b"sheet N             a sheet at the end of N bytes 0xee, N at most 70000
 load HEX            read the sheet at the end of these bytes
+sheet2 N            a sheet of form 2, with edition and waits, at the end of N bytes 0xee
+load2 HEX           read the sheet of form 2 at the end of these bytes
+forward HEX N       convert the form 1 sheet at the end of HEX to form 2, into N bytes 0xee
+back HEX N          convert the form 2 sheet at the end of HEX to form 1, into N bytes 0xee
 ",
     )
 }
@@ -54,6 +66,10 @@ f.feed FILE         append the bytes of a file to the device's queue
 f.out ADDR N FILE   write N bytes of the room to a file
 f.sheet FILE        store the state as a sheet file of 56 bytes
 f.load FILE         read the sheet at the end of a file
+f.sheet2 FILE       store the state as a sheet file of form 2, 58 bytes
+f.load2 FILE        read the sheet of form 2 at the end of a file
+f.forward FROM TO   convert the form 1 sheet at the end of a file into a file of form 2
+f.back FROM TO      convert the form 2 sheet at the end of a file into a file of form 1
 ",
     )
 }
@@ -75,6 +91,7 @@ exit                leave, too
 // A row a command; a newline ends each.
 pub fn help_rows(out: &mut [u8], at: usize) -> usize {
     let next = rows_of_controller(out, at);
+    let next = rows_of_sheets(out, next);
     let next = rows_of_arrays(out, next);
     let next = rows_of_files(out, next);
     rows_of_people(out, next)
@@ -86,7 +103,7 @@ pub fn help(out: &mut [u8], at: usize) -> usize {
         out,
         next,
         b"Numbers are decimal, or hexadecimal behind 0x; the 85h of comments is accepted nowhere.
-HEX: two digits a byte, or - for none. FILE: a name without blanks and #.",
+HEX: two digits a byte, or - for none. FILE, FROM, TO: a name without blanks and #.",
     )
 }
 
@@ -105,8 +122,20 @@ waits 3             # a memory card that is slow by three states
 grant
 run 65536 0         # to the service's end, no EOP
 round 600           # until nobody asks any more
-sheet 56            # what the pier stores
+",
+    )
+}
+
+fn examples_of_sheets(out: &mut [u8], at: usize) -> usize {
+    text(
+        out,
+        at,
+        b"sheet 56            # what the pier stores
 load 0000000000000000000000000000000000000000000000000000000000000000000000000000000f0000000300000000010030001200444d
+sheet2 58           # what the archive stores
+load2 01030000000000000000000000000000000000000000000000000000000000000000000000000000000f0000000300000000020032001600444d
+forward 0000000000000000000000000000000000000000000000000000000000000000000000000000000f0000000300000000010030001200444d 58
+back 00000000000000000000000000000000000000000000000000000000000000000000000000000000000f0000000300000000020032001200444d 56
 ",
     )
 }
@@ -131,6 +160,10 @@ f.feed sector.bin
 f.out 0 16 printed.bin
 f.sheet pier.sheet  # the old file stays until the new one is whole
 f.load pier.sheet
+f.sheet2 pier.sheet2
+f.load2 pier.sheet2
+f.forward pier.sheet pier.sheet2
+f.back pier.sheet2 pier.sheet
 show
 help poke
 quit
@@ -142,6 +175,7 @@ exit
 // One example a command.
 fn example_rows(out: &mut [u8], at: usize) -> usize {
     let next = examples_of_controller(out, at);
+    let next = examples_of_sheets(out, next);
     examples_of_others(out, next)
 }
 
@@ -183,7 +217,7 @@ pub fn help_refusals(out: &mut [u8], at: usize) -> usize {
  6  grant with no entitled channel
  7  memory not of 65,536 bytes
  8  run with no service open
- 9  slice under 56 bytes for a sheet
+ 9  slice under 56 bytes for a sheet (58 in form 2)
 10  sheet fault: end mark
 11  sheet fault: first two trailer bytes
 12  sheet fault: distance

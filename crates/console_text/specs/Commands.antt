@@ -9,7 +9,7 @@ use Rattle.words.specs.Choice.{when, _and_}
 use Rattle.console_text.specs.Text.{codes, same}
 use Rattle.console_text.specs.declared.forms.Command.{Command}
 use Rattle.console_text.specs.declared.forms.Command.the-variants.{Nothing, Chip, Arrays, Services, People, Unknown}
-use Rattle.console_text.specs.declared.forms.ChipCommand.the-variants.{State, SetState, Full, SetFull, Fresh, FreshOf, Write, Read, Pins, Reset, Waits, Grant, Sheet, Load}
+use Rattle.console_text.specs.declared.forms.ChipCommand.the-variants.{State, SetState, Full, SetFull, Fresh, FreshOf, Write, Read, Pins, Reset, Waits, Grant, Sheet, Load, Sheet2, Load2, Forward, Back}
 use Rattle.console_text.specs.declared.forms.ArrayCommand.the-variants.{Memory, Poke, Peek, Feed, Fill, Room, Out, Dump, Queue, Empty}
 use Rattle.console_text.specs.declared.forms.ServiceCommand.the-variants.{Run, Round}
 use Rattle.console_text.specs.declared.forms.PeopleCommand.the-variants.{Show, Help, HelpOn}
@@ -61,13 +61,22 @@ arrayRows =
     ∷ row "out" 2 (Arrays Out)
     ∷ []
 
--- services and sheets
+-- services
 abbrev pub serviceRows : List Row
 serviceRows =
     row "run" 2 (Services Run)
     ∷ row "round" 1 (Services Round)
-    ∷ row "sheet" 1 (Chip Sheet)
+    ∷ []
+
+-- sheets
+abbrev pub sheetRows : List Row
+sheetRows =
+    row "sheet" 1 (Chip Sheet)
     ∷ row "load" 1 (Chip Load)
+    ∷ row "sheet2" 1 (Chip Sheet2)
+    ∷ row "load2" 1 (Chip Load2)
+    ∷ row "forward" 2 (Chip Forward)
+    ∷ row "back" 2 (Chip Back)
     ∷ []
 
 -- for people
@@ -85,4 +94,4 @@ peopleRows =
 unfoldable pub commandOf : List ℕ → ℕ → Command
 commandOf name n =
     when (eqb (length name) 0) Nothing
-    (pick controllerRows name n (pick arrayRows name n (pick serviceRows name n (pick peopleRows name n Unknown))))
+    (pick controllerRows name n (pick arrayRows name n (pick serviceRows name n (pick sheetRows name n (pick peopleRows name n Unknown)))))

@@ -3,7 +3,7 @@ use crate::line::same;
 ghost use mathlib.Core.Path.{_≡_};
 ghost use Rattle.words.specs.Choice.{when};
 ghost use Rattle.console_text.specs.declared.forms.Command.the-variants.{Chip, Arrays, Services, People};
-ghost use Rattle.console_text.specs.Commands.{isForm, pick, controllerRows, arrayRows, serviceRows, peopleRows, commandOf};
+ghost use Rattle.console_text.specs.Commands.{isForm, pick, controllerRows, arrayRows, serviceRows, sheetRows, peopleRows, commandOf};
 
 // A command, by what it is given: the controller, the arrays, all of them, or nothing; a line of no words; anything else.
 pub enum Command {
@@ -31,6 +31,10 @@ pub enum ChipCommand {
     Grant,
     Sheet,
     Load,
+    Sheet2,
+    Load2,
+    Forward,
+    Back,
 }
 
 // On the memory, the queue and the room.
@@ -157,10 +161,19 @@ fn array_row(name: &[u8], n: usize, other: Command) -> Command
 fn service_row(name: &[u8], n: usize, other: Command) -> Command
     ensures { λ r. ⌜ r ≡ pick serviceRows (now (name .entry)) n other ⌝ }
 {
-    let no = chip(name, n, b"load", 1, ChipCommand::Load, other);
-    let no = chip(name, n, b"sheet", 1, ChipCommand::Sheet, no);
-    let no = service(name, n, b"round", 1, ServiceCommand::Round, no);
+    let no = service(name, n, b"round", 1, ServiceCommand::Round, other);
     service(name, n, b"run", 2, ServiceCommand::Run, no)
+}
+
+fn sheet_row(name: &[u8], n: usize, other: Command) -> Command
+    ensures { λ r. ⌜ r ≡ pick sheetRows (now (name .entry)) n other ⌝ }
+{
+    let no = chip(name, n, b"back", 2, ChipCommand::Back, other);
+    let no = chip(name, n, b"forward", 2, ChipCommand::Forward, no);
+    let no = chip(name, n, b"load2", 1, ChipCommand::Load2, no);
+    let no = chip(name, n, b"sheet2", 1, ChipCommand::Sheet2, no);
+    let no = chip(name, n, b"load", 1, ChipCommand::Load, no);
+    chip(name, n, b"sheet", 1, ChipCommand::Sheet, no)
 }
 
 fn people_row(name: &[u8], n: usize, other: Command) -> Command
@@ -181,6 +194,7 @@ pub fn command_of(name: &[u8], n: usize) -> Command
         return Command::Nothing;
     }
     let no = people_row(name, n, Command::Unknown);
+    let no = sheet_row(name, n, no);
     let no = service_row(name, n, no);
     let no = array_row(name, n, no);
     controller_row(name, n, no)

@@ -19,12 +19,13 @@ use Rattle.am9517.specs.declared.Answer.{Answer}
 use Rattle.am9517_service.specs.Answers.{Given}
 use Rattle.am9517_service.specs.RoundAnswers.{RoundGiven, closed}
 use Rattle.am9517_sheet.specs.declared.SheetRead.{SheetRead}
+use Rattle.am9517_sheet.specs.declared.forms.Form.{Form}
 use Rattle.am9517_sheet.specs.declared.forms.Form.the-variants.{One}
 use Rattle.am9517_sheet.specs.Sheet.{sheetRefusalNumber, Stored}
 use Rattle.c_am9517.specs.Numbers.{editionByte, valueOf}
 use Rattle.c_am9517.specs.Host.{lookGrounds, lookOf, loadOf, runCallOf, roundCallOf}
 use Rattle.demands.specs.Lists.{All, none, also}
-use Rattle.demands.specs.Operations.{Op, Write, Read, Pins, Reset, Waits, Grant, Run, Round, SheetWriting, SheetReading, Scene, scene, before, after, said}
+use Rattle.demands.specs.Operations.{Op, Write, Read, Pins, Reset, Waits, Grant, Run, Round, SheetWriting, SheetReading, Converting, Scene, scene, before, after, said}
 use Rattle.demands.specs.Refusals.{First, here, grounds}
 use Rattle.demands.specs.Calls.{Call, CCheck, CReset, CGrant, CEntitled, CStatus, CWrite, CRead, CPins, CWaits, CRun, CRound, CSave, CLoad, looked, leftBy, ranBy, roundBy, does, lentTo, callGrounds, CallRefuses, Demand1OfCalls, ChipsStayGood}
 use Rattle.words.proofs.ChoiceLaws.{when-both, when-each, when-miss}
@@ -35,7 +36,7 @@ use Rattle.am9517_sheet.proofs.SheetLaws.{number-said, write-done, write-free}
 use Rattle.am9517_sheet.proofs.BodyLaws.{zero-within}
 use Rattle.am9517_sheet.proofs.TripLaws.{written-read}
 use Rattle.demands.proofs.Refusals.{refusal-exactly, Zeros, demand-1, round-refused}
-use Rattle.demands.proofs.Sheets.{other-refused}
+use Rattle.demands.proofs.Sheets.{full-written, other-refused}
 use Rattle.demands.proofs.Ranges.{kept, read, fresh-valid, not-by-1}
 
 -- a refused operation has no value
@@ -76,7 +77,7 @@ round-refuses s m d r k =
     (λ h. subst (λ (g : RoundGiven). Zeros (roundBy (roundCallOf g) .beside)) (sym (round-refused s m d r k h)) (also refl (also refl (also refl (also refl (also refl (also refl (also refl (also refl (also refl none))))))))))
     (round-told s m d r k)
 
-pub demand-1-of-calls : Demand1OfCalls
+demand-1-of-calls : (s : Controller) (c : Call) → CallRefuses (does s c) (callGrounds s c) (lentTo s c)
 demand-1-of-calls s CCheck = record { exactly = refusal-exactly (lookGrounds s); stays = λ h. refl; only = λ h. also refl none }
 demand-1-of-calls s CEntitled = look-refuses s _
 demand-1-of-calls s CStatus = look-refuses s _
@@ -88,8 +89,11 @@ demand-1-of-calls s CReset = by-operation s Reset _ (λ h. also (no-value _ _ _ 
 demand-1-of-calls s CGrant = by-operation s Grant _ (λ h. also (no-value _ _ _ _ h) none) (number-told _ _ _ _ refl)
 demand-1-of-calls s (CRun m d r limit eop) = run-refuses s m d r limit eop
 demand-1-of-calls s (CRound m d r k) = round-refuses s m d r k
-demand-1-of-calls s (CSave bytes) = by-operation s (SheetWriting bytes) [] (λ h. none) (number-said _)
-demand-1-of-calls s (CLoad bytes) = by-operation s (SheetReading bytes) _ (λ h. also refl none) (number-said _)
+demand-1-of-calls s (CSave form bytes) = by-operation s (SheetWriting form bytes) [] (λ h. none) (number-said _)
+demand-1-of-calls s (CLoad form bytes) = by-operation s (SheetReading form bytes) _ (λ h. also refl none) (number-said _)
+
+pub demand-1-in-c : Demand1OfCalls
+demand-1-in-c = record { calls = demand-1-of-calls; conversions = λ s to source target. by-operation s (Converting to source target) [] (λ h. none) (number-said _) }
 
 number : (n : ℕ) → ¬ (suc n ≡ 0)
 number n e = omega arith
@@ -114,8 +118,8 @@ call-not-1 s CReset v = not-by-1 s Reset v
 call-not-1 s CGrant v = not-by-1 s Grant v
 call-not-1 s (CRun m d r limit eop) v = not-by-1 s (Run m d r limit eop) v
 call-not-1 s (CRound m d r k) v = not-by-1 s (Round m d r k) v
-call-not-1 s (CSave bytes) v = not-by-1 s (SheetWriting bytes) v
-call-not-1 s (CLoad bytes) v = not-by-1 s (SheetReading bytes) v
+call-not-1 s (CSave form bytes) v = not-by-1 s (SheetWriting form bytes) v
+call-not-1 s (CLoad form bytes) v = not-by-1 s (SheetReading form bytes) v
 
 stays-good : (s : Controller) (c : Call) → valid s ≡ true → valid (does s c .leaves .controller) ≡ true
 stays-good s CCheck v = v
@@ -129,8 +133,8 @@ stays-good s CReset v = kept s Reset v
 stays-good s CGrant v = kept s Grant v
 stays-good s (CRun m d r limit eop) v = kept s (Run m d r limit eop) v
 stays-good s (CRound m d r k) v = kept s (Round m d r k) v
-stays-good s (CSave bytes) v = v
-stays-good s (CLoad bytes) v = kept s (SheetReading bytes) v
+stays-good s (CSave form bytes) v = v
+stays-good s (CLoad form bytes) v = kept s (SheetReading form bytes) v
 
 -- A chip out of its ranges is refused by 1, by each call that asks them first.
 abbrev Asks : Controller → Call → Type 0
@@ -139,7 +143,7 @@ Asks s c = valid s ≡ false → First 1 (callGrounds s c)
 by-1 : (s : Controller) (c : Call) → Asks s c → valid s ≡ false → does s c .refusal ≡ 1
 by-1 s c asks v = demand-1-of-calls s c .exactly 1 (number 0) .1 (asks v)
 
-out-of-ranges : (s : Controller) (c : Call) → valid s ≡ false → ((bytes : List ℕ) → ¬ (c ≡ CLoad bytes)) → does s c .refusal ≡ 1
+out-of-ranges : (s : Controller) (c : Call) → valid s ≡ false → ((form : Form) (bytes : List ℕ) → ¬ (c ≡ CLoad form bytes)) → does s c .refusal ≡ 1
 out-of-ranges s CCheck v h = by-1 s CCheck (λ e. here (ap not e) refl) v
 out-of-ranges s CEntitled v h = by-1 s CEntitled (λ e. here (ap not e) refl) v
 out-of-ranges s CStatus v h = by-1 s CStatus (λ e. here (ap not e) refl) v
@@ -151,8 +155,8 @@ out-of-ranges s CReset v h = by-1 s CReset (λ e. here (ap not e) refl) v
 out-of-ranges s CGrant v h = by-1 s CGrant (λ e. here (ap not e) refl) v
 out-of-ranges s (CRun m d r limit eop) v h = by-1 s (CRun m d r limit eop) (λ e. here (ap not e) refl) v
 out-of-ranges s (CRound m d r k) v h = by-1 s (CRound m d r k) (λ e. here (ap not e) refl) v
-out-of-ranges s (CSave bytes) v h = by-1 s (CSave bytes) (λ e. here (ap not e) refl) v
-out-of-ranges s (CLoad bytes) v h = absurd (h bytes refl)
+out-of-ranges s (CSave form bytes) v h = by-1 s (CSave form bytes) (λ e. here (ap not e) refl) v
+out-of-ranges s (CLoad form bytes) v h = absurd (h form bytes refl)
 
 -- so what it accepted was in them
 accepted-by : (s : Controller) (c : Call) → Asks s c → does s c .refusal ≡ 0 → valid (does s c .leaves .controller) ≡ true
@@ -174,8 +178,8 @@ accepted-good s CReset h = accepted-by s CReset (λ e. here (ap not e) refl) h
 accepted-good s CGrant h = accepted-by s CGrant (λ e. here (ap not e) refl) h
 accepted-good s (CRun m d r limit eop) h = accepted-by s (CRun m d r limit eop) (λ e. here (ap not e) refl) h
 accepted-good s (CRound m d r k) h = accepted-by s (CRound m d r k) (λ e. here (ap not e) refl) h
-accepted-good s (CSave bytes) h = accepted-by s (CSave bytes) (λ e. here (ap not e) refl) h
-accepted-good s (CLoad bytes) h = read s bytes h
+accepted-good s (CSave form bytes) h = accepted-by s (CSave form bytes) (λ e. here (ap not e) refl) h
+accepted-good s (CLoad form bytes) h = read s form bytes h
 
 refused-stays : (s : Controller) (c : Call) → lentTo s c .controller ≡ s → ¬ (does s c .refusal ≡ 0) → does s c .leaves .controller ≡ s
 refused-stays s c lent h = ap (λ (x : Scene). x .controller) (demand-1-of-calls s c .stays h) ∙ lent
@@ -192,8 +196,8 @@ lent-chip s CReset = refl
 lent-chip s CGrant = refl
 lent-chip s (CRun m d r limit eop) = refl
 lent-chip s (CRound m d r k) = refl
-lent-chip s (CSave bytes) = refl
-lent-chip s (CLoad bytes) = refl
+lent-chip s (CSave form bytes) = refl
+lent-chip s (CLoad form bytes) = refl
 
 -- Operations refuse by 8 at most.
 abbrev Small : Ground ℕ → Type 0
@@ -211,7 +215,7 @@ refusal-small n gs is h = subst (λ (x : ℕ). x ≤ 8) (sym is) (first-small gs
 at-most : (n : ℕ) → n ≤ 8 → n ≤ 8
 at-most n h = h
 
-call-small : (s : Controller) (c : Call) → ((bytes : List ℕ) → ¬ (c ≡ CSave bytes)) → ((bytes : List ℕ) → ¬ (c ≡ CLoad bytes)) → does s c .refusal ≤ 8
+call-small : (s : Controller) (c : Call) → ((form : Form) (bytes : List ℕ) → ¬ (c ≡ CSave form bytes)) → ((form : Form) (bytes : List ℕ) → ¬ (c ≡ CLoad form bytes)) → does s c .refusal ≤ 8
 call-small s CCheck f g = refusal-small _ (lookGrounds s) refl (also (at-most 1 (omega arith)) none)
 call-small s CEntitled f g = refusal-small _ (lookGrounds s) refl (also (at-most 1 (omega arith)) none)
 call-small s CStatus f g = refusal-small _ (lookGrounds s) refl (also (at-most 1 (omega arith)) none)
@@ -223,16 +227,16 @@ call-small s CReset f g = refusal-small _ (callGrounds s CReset) (number-told _ 
 call-small s CGrant f g = refusal-small _ (callGrounds s CGrant) (number-told _ _ _ _ refl) (also (at-most 1 (omega arith)) (also (at-most 3 (omega arith)) (also (at-most 6 (omega arith)) none)))
 call-small s (CRun m d r limit eop) f g = refusal-small _ (callGrounds s (CRun m d r limit eop)) (ran-told s m d r limit eop) (also (at-most 1 (omega arith)) (also (at-most 7 (omega arith)) (also (at-most 8 (omega arith)) none)))
 call-small s (CRound m d r k) f g = refusal-small _ (callGrounds s (CRound m d r k)) (round-told s m d r k) (also (at-most 1 (omega arith)) (also (at-most 2 (omega arith)) (also (at-most 7 (omega arith)) (also (at-most 3 (omega arith)) none))))
-call-small s (CSave bytes) f g = absurd (f bytes refl)
-call-small s (CLoad bytes) f g = absurd (g bytes refl)
+call-small s (CSave form bytes) f g = absurd (f form bytes refl)
+call-small s (CLoad form bytes) f g = absurd (g form bytes refl)
 
-load-never-1 : (s : Controller) (bytes : List ℕ) → ¬ (does s (CLoad bytes) .refusal ≡ 1)
-load-never-1 s bytes = not-by-1 _ (SheetReading bytes) (fresh-valid Am9517A)
+load-never-1 : (s : Controller) (form : Form) (bytes : List ℕ) → ¬ (does s (CLoad form bytes) .refusal ≡ 1)
+load-never-1 s form bytes = not-by-1 _ (SheetReading form bytes) (fresh-valid Am9517A)
 
-saved-and-loaded : (s t : Controller) (bytes : List ℕ) → length (s .channels) ≡ 4 → does s (CSave bytes) .refusal ≡ 0
-    → does t (CLoad (does s (CSave bytes) .leaves .slice)) ≡ record { refusal = 0; beside = 0 ∷ []; leaves = scene s [] [] [] }
-saved-and-loaded s t bytes four free =
-    ap (λ (x : SheetRead). leftBy (loadOf x)) (written-read One s t bytes four (ap (λ (w : Stored). w .answer) (write-done One s bytes (sym (number-said _) ∙ free))))
+saved-and-loaded : (form : Form) (s t : Controller) (bytes : List ℕ) → length (s .channels) ≡ 4 → does s (CSave form bytes) .refusal ≡ 0
+    → does t (CLoad form (does s (CSave form bytes) .leaves .slice)) ≡ record { refusal = 0; beside = 0 ∷ []; leaves = scene s [] [] [] }
+saved-and-loaded form s t bytes four free =
+    ap (λ (x : SheetRead). leftBy (loadOf x)) (written-read form s t bytes four (ap (λ (w : Stored). w .answer) (write-done form s bytes (sym (number-said _) ∙ free))))
 
 fresh-in : (byte : ℕ) → valid (fresh byte) ≡ leb byte 1
 unfolding _and_ modeValid modesValid fieldsValid serviceValid valid
@@ -258,6 +262,7 @@ chips-stay-good =
       small = call-small;
       byOne = out-of-ranges;
       loadNeverBy1 = load-never-1;
+      saved2 = λ s bytes v room. ap sheetRefusalNumber (full-written s bytes v room);
       saved = λ s bytes v e w room. number-said _ ∙ write-free One s (length bytes) v room (zero-within s e w);
       unsaved = λ s bytes v e room. ap (λ (w : Stored). sheetRefusalNumber (w .answer)) (other-refused s bytes v e room);
       loaded = saved-and-loaded;

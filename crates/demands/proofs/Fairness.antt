@@ -21,7 +21,7 @@ use Rattle.am9517.specs.declared.Answer.the-variants.{Value, Refused}
 use Rattle.am9517_service.specs.World.{Stop, startOf}
 use Rattle.am9517_service.specs.Answers.{Given, stopped, ranOf, runGrounds}
 use Rattle.demands.specs.Lists.{All, also, count}
-use Rattle.demands.specs.Operations.{Op, Write, Read, Pins, Reset, Waits, Grant, Run, Round, SheetWriting, SheetReading, next, afterAll}
+use Rattle.demands.specs.Operations.{Op, Write, Read, Pins, Reset, Waits, Grant, Run, Round, SheetWriting, SheetReading, Converting, next, afterAll}
 use Rattle.demands.specs.Grants.{Granted, told, grants, channels}
 use Rattle.demands.specs.Rounds.{callsFrom, calls, callsOf, spelled}
 use Rattle.demands.specs.Fairness.{Traced, Trace, Contends, Fair, Demand3, Demand3Reported, LowestKept}
@@ -32,6 +32,7 @@ use Rattle.am9517.proofs.RefusalLaws.{number-told}
 use Rattle.am9517.proofs.ServingLaws.{picked-asked}
 use Rattle.am9517_service.proofs.AnswerLaws.{run-refused, run-accepted}
 use Rattle.am9517_service.proofs.KeepLaws.{run-left}
+use Rattle.am9517_sheet.specs.declared.forms.Form.{Form}
 use Rattle.am9517_sheet.proofs.SheetLaws.{number-said}
 use Rattle.demands.proofs.Turns.{place, Turns, over, then, turns-fair}
 use Rattle.demands.proofs.Rounds.{round-is-calls, calls-leave}
@@ -97,8 +98,9 @@ Call (Waits n) = Unit
 Call Grant = Unit
 Call (Run m d r limit eop) = Unit
 Call (Round m d r k) = ⊥
-Call (SheetWriting out) = Unit
-Call (SheetReading bytes) = Unit
+Call (SheetWriting form out) = Unit
+Call (SheetReading form bytes) = Unit
+Call (Converting to source out) = Unit
 
 -- calls of a trace
 abbrev pub Path : Controller → List Op → Type 0
@@ -121,8 +123,8 @@ waits-kept s n = outcome-kept s _ _ _ (λ free. refl)
 reset-kept : (s : Controller) → Traced s Reset → next s Reset .lowest ≡ s .lowest
 reset-kept s t = outcome-kept s _ _ _ (λ free. absurd (t tt (number-told _ _ _ _ refl ∙ free)))
 
-reading-kept : (s : Controller) (bytes : List ℕ) → Traced s (SheetReading bytes) → next s (SheetReading bytes) .lowest ≡ s .lowest
-reading-kept s bytes t =
+reading-kept : (s : Controller) (form : Form) (bytes : List ℕ) → Traced s (SheetReading form bytes) → next s (SheetReading form bytes) .lowest ≡ s .lowest
+reading-kept s form bytes t =
     when-each (λ (x : Controller). x .lowest ≡ s .lowest) _ (λ e. absurd (t tt (number-said _ ∙ eqb-true _ _ e))) (λ e. refl)
 
 -- In the order from the lowest the picked channel stands no later than place k, where an entitled one stands.
@@ -203,8 +205,9 @@ linked-of s (Reset ∷ ops) u = linked-from (reset-kept s (u .1)) (linked-of _ o
 linked-of s (Grant ∷ ops) u = grant-linked s _ _ refl (linked-of _ ops (u .2))
 linked-of s (Run m d r limit eop ∷ ops) u = linked-from (run-kept s m d r limit eop) (linked-of _ ops (u .2))
 linked-of s (Round m d r k ∷ ops) u = absurd (u .0)
-linked-of s (SheetWriting out ∷ ops) u = linked-of s ops (u .2)
-linked-of s (SheetReading bytes ∷ ops) u = linked-from (reading-kept s bytes (u .1)) (linked-of _ ops (u .2))
+linked-of s (SheetWriting form out ∷ ops) u = linked-of s ops (u .2)
+linked-of s (SheetReading form bytes ∷ ops) u = linked-from (reading-kept s form bytes (u .1)) (linked-of _ ops (u .2))
+linked-of s (Converting to source out ∷ ops) u = linked-of s ops (u .2)
 
 -- a round's calls, and operations with rounds among them, are calls of a trace
 path-both : (s : Controller) (xs ys : List Op) → Path s xs → Path (afterAll s xs) ys → Path s (xs ++ ys)
@@ -230,8 +233,9 @@ path-of s (Waits n) t = (tt, t, tt)
 path-of s Grant t = (tt, t, tt)
 path-of s (Run m d r limit eop) t = (tt, t, tt)
 path-of s (Round m d r k) t = calls-path s m d r k
-path-of s (SheetWriting out) t = (tt, t, tt)
-path-of s (SheetReading bytes) t = (tt, t, tt)
+path-of s (SheetWriting form out) t = (tt, t, tt)
+path-of s (SheetReading form bytes) t = (tt, t, tt)
+path-of s (Converting to source out) t = (tt, t, tt)
 
 spelled-path : (s : Controller) (ops : List Op) → Trace s ops → Path s (spelled s ops)
 spelled-path s [] u = tt
@@ -258,8 +262,9 @@ lowest-stays s (Reset ∷ ops) u e = lowest-stays _ ops (u .2) e ∙ reset-kept 
 lowest-stays s (Grant ∷ ops) u e = grant-stays s _ _ _ refl e (lowest-stays _ ops (u .2))
 lowest-stays s (Run m d r limit eop ∷ ops) u e = lowest-stays _ ops (u .2) e ∙ run-kept s m d r limit eop
 lowest-stays s (Round m d r k ∷ ops) u e = absurd (u .0)
-lowest-stays s (SheetWriting out ∷ ops) u e = lowest-stays s ops (u .2) e
-lowest-stays s (SheetReading bytes ∷ ops) u e = lowest-stays _ ops (u .2) e ∙ reading-kept s bytes (u .1)
+lowest-stays s (SheetWriting form out ∷ ops) u e = lowest-stays s ops (u .2) e
+lowest-stays s (SheetReading form bytes ∷ ops) u e = lowest-stays _ ops (u .2) e ∙ reading-kept s form bytes (u .1)
+lowest-stays s (Converting to source out ∷ ops) u e = lowest-stays s ops (u .2) e
 
 pub lowest-kept : LowestKept
 lowest-kept s op t e = ap (λ (x : Controller). x .lowest) (sym (calls-leave s op)) ∙ lowest-stays s (callsOf s op) (path-of s op t) e

@@ -6,7 +6,7 @@ use Rattle.am9517.specs.Serving.{entitled, setOf, status}
 use Rattle.am9517.specs.Answers.{writeOf, readOf, pinsOf, resetOf, waitsOf, grantOf}
 use Rattle.am9517_service.specs.Answers.{Given, ranOf}
 use Rattle.am9517_service.specs.RoundAnswers.{RoundGiven, roundedOf}
-use Rattle.am9517_sheet.specs.declared.forms.Form.the-variants.{One}
+use Rattle.am9517_sheet.specs.declared.forms.Form.the-variants.{One, Two}
 use Rattle.am9517_sheet.specs.Sheet.{Stored, sheetWriteOf, sheetReadOf}
 use Rattle.c_am9517.specs.Numbers.{told}
 use Rattle.c_am9517.specs.Host.{lookOf, Left, left, callOf, loadOf, Saved, saved, saveOf, RunLeft, runLeft, runCallOf, RoundLeft, roundLeft, roundCallOf}
@@ -69,12 +69,15 @@ one-outcome =
       ended = record { free = λ κs a. tt; single = λ κs a x y l l' p q. (same p q, refl) };
       run = record { free = λ κs a. tt; single = λ κs a x y l l' p q. (ap (λ (g : Given). g .ran) (same (p .0) (q .0)), ap (λ (g : Given). (tt, (g .memory, (tt, (g .room, (tt, (tt, tt))))))) (same (p .0) (q .0))) };
       round = record { free = λ κs a. tt; single = λ κs a x y l l' p q. (ap (λ (g : RoundGiven). g .rounded) (same (p .0) (q .0)), ap (λ (g : RoundGiven). (tt, (g .memory, (tt, (g .room, (tt, tt)))))) (same (p .0) (q .0))) };
-      sheetWrite = record { free = λ κs a. tt; single = λ κs a x y l l' p q. (ap (λ (s : Stored). s .answer) (same (p .0) (q .0)), ap (λ (s : Stored). (tt, (s .bytes, tt))) (same (p .0) (q .0))) };
+      sheetWrite = record { free = λ κs a. tt; single = λ κs a x y l l' p q. (ap (λ (s : Stored). s .answer) (same (p .0) (q .0)), ap (λ (s : Stored). (tt, (tt, (s .bytes, tt)))) (same (p .0) (q .0))) };
       sheetRead = record { free = λ κs a. tt; single = λ κs a x y l l' p q. (same (p .0) (q .0), refl) };
+      sheetConvert = record { free = λ κs a. tt; single = λ κs a x y l l' p q. (ap (λ (s : Stored). s .answer) (same (p .0) (q .0)), ap (λ (s : Stored). (tt, (tt, (s .bytes, tt)))) (same (p .0) (q .0))) };
       bodyOf = record { free = λ κs a. tt; single = λ κs a x y l l' p q. (same p q, refl) };
       stateOf = record { free = λ κs a. tt; single = λ κs a x y l l' p q. (same p q, refl) };
       cVersion = record { free = λ κs a. tt; single = λ κs a x y l l' p q. (same p q, refl) };
       cFresh = record { free = λ κs a. tt; single = λ κs a x y l l' p q. (same p q, refl) };
+      cForward = record { free = λ κs a. tt; single = λ κs a x y l l' p q. (ap (λ (g : Saved). g .refusal) (same p q), ap (λ (g : Saved). (tt, (g .sheet, tt))) (same p q)) };
+      cBack = record { free = λ κs a. tt; single = λ κs a x y l l' p q. (ap (λ (g : Saved). g .refusal) (same p q), ap (λ (g : Saved). (tt, (g .sheet, tt))) (same p q)) };
     }
 
 pub one-outcome-of-calls : OneOutcomeOfCalls
@@ -166,6 +169,20 @@ one-outcome-of-calls =
       };
       cLoad = record {
         promise = λ κs a r e. left (e .0 .now) (told r 0) ≡ loadOf (sheetReadOf One (a .0 .now) (a .1 .0 .now));
+        entered = λ M 𝓤 H A mem run κs a. tt;
+        free = λ M 𝓤 H A mem run κs a g. refl;
+        says = λ M 𝓤 H A mem run κs a g r e. refl;
+        single = λ κs a x y l l' p q. (ap (λ (g : Left). g .said .refusal) (same p q), ap (λ (g : Left). (g .chip, (tt, tt))) (same p q));
+      };
+      cSave2 = record {
+        promise = λ κs a r e. saved r (e .1 .0 .now) ≡ saveOf (sheetWriteOf Two (a .0 .now) (a .1 .0 .now));
+        entered = λ M 𝓤 H A mem run κs a. tt;
+        free = λ M 𝓤 H A mem run κs a g. refl;
+        says = λ M 𝓤 H A mem run κs a g r e. refl;
+        single = λ κs a x y l l' p q. (ap (λ (g : Saved). g .refusal) (same p q), ap (λ (g : Saved). (tt, (g .sheet, tt))) (same p q));
+      };
+      cLoad2 = record {
+        promise = λ κs a r e. left (e .0 .now) (told r 0) ≡ loadOf (sheetReadOf Two (a .0 .now) (a .1 .0 .now));
         entered = λ M 𝓤 H A mem run κs a. tt;
         free = λ M 𝓤 H A mem run κs a g. refl;
         says = λ M 𝓤 H A mem run κs a g r e. refl;

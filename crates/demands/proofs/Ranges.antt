@@ -20,11 +20,11 @@ use Rattle.am9517.specs.declared.Edition.the-variants.{Am9517A, Intel8237A}
 use Rattle.am9517.specs.declared.Answer.{Answer}
 use Rattle.am9517_service.specs.World.{Stop, startOf}
 use Rattle.am9517_service.specs.Answers.{Given, stopped, runGrounds}
-use Rattle.am9517_sheet.specs.declared.forms.Form.the-variants.{One}
+use Rattle.am9517_sheet.specs.declared.forms.Form.{Form}
 use Rattle.am9517_sheet.specs.Body.{stateOf}
 use Rattle.am9517_sheet.specs.Sheet.{sheetIn, sheetReadGrounds}
 use Rattle.demands.specs.Lists.{All, none, also}
-use Rattle.demands.specs.Operations.{Op, Write, Read, Pins, Reset, Waits, Grant, Run, Round, SheetWriting, SheetReading, next, afterAll, said}
+use Rattle.demands.specs.Operations.{Op, Write, Read, Pins, Reset, Waits, Grant, Run, Round, SheetWriting, SheetReading, Converting, next, afterAll, said}
 use Rattle.demands.specs.Refusals.{First, here, later, grounds}
 use Rattle.demands.specs.Rounds.{callsFrom}
 use Rattle.demands.specs.Ranges.{RangesKept}
@@ -81,9 +81,9 @@ calls-valid (suc left) s t m d r e v =
     (when-both (λ (ops : List Op). Valid (afterAll (ran s) ops)) _ w (calls-valid left (ran s) (ran t) _ _ _ (ap ran e) w))
 
 -- an accepted sheet has no ground 14
-sheet-valid : (s : Controller) (bytes : List ℕ) → refusal (sheetReadGrounds One bytes) ≡ 0 → valid (stateOf One (sheetIn One bytes)) ≡ true
+sheet-valid : (form : Form) (bytes : List ℕ) → refusal (sheetReadGrounds form bytes) ≡ 0 → valid (stateOf form (sheetIn form bytes)) ≡ true
 unfolding refusal first
-sheet-valid s bytes free =
+sheet-valid form bytes free =
     let p9 = passed _ _ _ (omega arith) free in
     let p10 = passed _ _ _ (omega arith) (p9 .next) in
     let p11 = passed _ _ _ (omega arith) (p10 .next) in
@@ -101,13 +101,14 @@ kept s Grant v = grant-valid s v
 kept s (Run m d r limit eop) v = run-valid s v m d r limit eop
 kept s (Round m d r k) v =
     subst Valid (sym (round-is-calls s m d r k .leaves)) (when-both (λ (ops : List Op). Valid (afterAll s ops)) _ (calls-valid k s s m d r refl v) v)
-kept s (SheetWriting out) v = v
-kept s (SheetReading bytes) v = when-each Valid _ (λ e. sheet-valid s bytes (eqb-true _ _ e)) (λ e. v)
+kept s (SheetWriting form out) v = v
+kept s (SheetReading form bytes) v = when-each Valid _ (λ e. sheet-valid form bytes (eqb-true _ _ e)) (λ e. v)
+kept s (Converting to source out) v = v
 
-pub read : (s : Controller) (bytes : List ℕ) → said s (SheetReading bytes) ≡ 0 → valid (next s (SheetReading bytes)) ≡ true
-read s bytes free =
+pub read : (s : Controller) (form : Form) (bytes : List ℕ) → said s (SheetReading form bytes) ≡ 0 → valid (next s (SheetReading form bytes)) ≡ true
+read s form bytes free =
     let e = sym (number-said _) ∙ free in
-    when-each Valid _ (λ z. sheet-valid s bytes e) (λ z. absurd (eqb-false _ _ z e))
+    when-each Valid _ (λ z. sheet-valid form bytes e) (λ z. absurd (eqb-false _ _ z e))
 
 kept-all : (s : Controller) (ops : List Op) → valid s ≡ true → valid (afterAll s ops) ≡ true
 kept-all s [] v = v
@@ -134,9 +135,11 @@ never-1 s Reset v = also (λ q. ap not v) none
 never-1 s Grant v = also (λ q. ap not v) (also (other 3 _ (λ e. omega arith)) (also (other 6 _ (λ e. omega arith)) none))
 never-1 s (Run m d r limit eop) v = also (λ q. ap not v) (also (other 7 _ (λ e. omega arith)) (also (other 8 _ (λ e. omega arith)) none))
 never-1 s (Round m d r k) v = also (λ q. ap not v) (also (other 2 _ (λ e. omega arith)) (also (other 7 _ (λ e. omega arith)) (also (other 3 _ (λ e. omega arith)) none)))
-never-1 s (SheetWriting out) v = also (λ q. ap not v) (also (other 9 _ (λ e. omega arith)) (also (other 15 _ (λ e. omega arith)) none))
-never-1 s (SheetReading bytes) v =
+never-1 s (SheetWriting form out) v = also (λ q. ap not v) (also (other 9 _ (λ e. omega arith)) (also (other 15 _ (λ e. omega arith)) none))
+never-1 s (SheetReading form bytes) v =
     also (other 9 _ (λ e. omega arith)) (also (other 10 _ (λ e. omega arith)) (also (other 11 _ (λ e. omega arith)) (also (other 12 _ (λ e. omega arith)) (also (other 13 _ (λ e. omega arith)) (also (other 14 _ (λ e. omega arith)) none)))))
+never-1 s (Converting to source out) v =
+    also (other 9 _ (λ e. omega arith)) (also (other 10 _ (λ e. omega arith)) (also (other 11 _ (λ e. omega arith)) (also (other 12 _ (λ e. omega arith)) (also (other 13 _ (λ e. omega arith)) (also (other 14 _ (λ e. omega arith)) (also (other 15 _ (λ e. omega arith)) none))))))
 
 pub not-by-1 : (s : Controller) (op : Op) → valid s ≡ true → ¬ (said s op ≡ 1)
 not-by-1 s op v e = none-first (grounds s op) (never-1 s op v) (demand-1 s op .exactly 1 (λ z. omega arith) .0 e)
@@ -152,5 +155,5 @@ ranges-kept =
       kept = kept;
       read = read;
       fromFresh = λ e ops op. not-by-1 _ op (kept-all _ ops (fresh-valid e));
-      fromSheet = λ s bytes ops op free. not-by-1 _ op (kept-all _ ops (read s bytes free));
+      fromSheet = λ s form bytes ops op free. not-by-1 _ op (kept-all _ ops (read s form bytes free));
     }

@@ -15,7 +15,7 @@ use Rattle.am9517_service.specs.declared.RoundAnswer.the-variants.{Refused}
 use Rattle.am9517_service.specs.Round.{beginning, close}
 use Rattle.am9517_service.specs.RoundAnswers.{closed, roundGrounds, roundedOf}
 use Rattle.demands.specs.Lists.{All, none, also}
-use Rattle.demands.specs.Operations.{Op, Write, Read, Pins, Reset, Waits, Grant, Run, Round, SheetWriting, SheetReading, before, after, said, counts, ranScene, roundScene}
+use Rattle.demands.specs.Operations.{Op, Write, Read, Pins, Reset, Waits, Grant, Run, Round, SheetWriting, SheetReading, Converting, before, after, said, counts, ranScene, roundScene}
 use Rattle.demands.specs.Refusals.{First, here, later, grounds, Refuses, Demand1}
 use Rattle.words.proofs.ChoiceLaws.{when-miss}
 use Rattle.am9517.proofs.RefusalLaws.{number-told}
@@ -88,5 +88,6 @@ demand-1 s (Run m d r limit eop) =
     refuses s (Run m d r limit eop) (ran-told s m d r limit eop) (λ h. ap ranScene (run-refused s m d r limit eop _ refl h))
     (λ h. rw (run-refused s m d r limit eop _ refl h) (also refl (also refl (also refl (also refl none)))))
 demand-1 s (Round m d r k) = refuses s (Round m d r k) (round-told s m d r k) (round-stays s m d r k) (round-zeros s m d r k)
-demand-1 s (SheetWriting out) = refuses s (SheetWriting out) (number-said _) (λ h. ap (λ (xs : List ℕ). before s (SheetWriting xs)) (when-miss _ _ _ (ne-eqb _ 0 h))) (λ h. none)
-demand-1 s (SheetReading bytes) = refuses s (SheetReading bytes) (number-said _) (λ h. ap (λ (c : Controller). before c Reset) (when-miss _ _ _ (ne-eqb _ 0 h))) (λ h. none)
+demand-1 s (SheetWriting form out) = refuses s (SheetWriting form out) (number-said _) (λ h. ap (λ (xs : List ℕ). before s (SheetWriting form xs)) (when-miss _ _ _ (ne-eqb _ 0 h))) (λ h. none)
+demand-1 s (SheetReading form bytes) = refuses s (SheetReading form bytes) (number-said _) (λ h. ap (λ (c : Controller). before c Reset) (when-miss _ _ _ (ne-eqb _ 0 h))) (λ h. none)
+demand-1 s (Converting to source out) = refuses s (Converting to source out) (number-said _) (λ h. ap (λ (xs : List ℕ). before s (SheetWriting to xs)) (when-miss _ _ _ (ne-eqb _ 0 h))) (λ h. none)

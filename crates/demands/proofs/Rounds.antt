@@ -30,7 +30,7 @@ use Rattle.am9517_service.specs.Answers.{Given, runRefusalNumber, stopped, ranO
 use Rattle.am9517_service.specs.Round.{Course, Close, close, beginning, nobody, runNext, withRun, afterNext, isEnded, roundOf}
 use Rattle.am9517_service.specs.RoundAnswers.{RoundGiven, roundGiven, closed, roundGrounds, roundedOf}
 use Rattle.demands.specs.Lists.{count}
-use Rattle.demands.specs.Operations.{Op, Write, Read, Pins, Reset, Waits, Grant, Run, Round, SheetWriting, SheetReading, next, afterAll, said}
+use Rattle.demands.specs.Operations.{Op, Write, Read, Pins, Reset, Waits, Grant, Run, Round, SheetWriting, SheetReading, Converting, next, afterAll, said}
 use Rattle.demands.specs.Grants.{Granted, told, grants, channels}
 use Rattle.demands.specs.Rounds.{Words, RoundStops, hasEnded, callsFrom, calls, runs, memoryBehind, roomBehind, sums, lastAnswer, closing, Accepted, IsCalls, RoundIsCalls, callsOf, spelled, SpelledLeads}
 use Rattle.words.proofs.ChoiceLaws.{when-both, when-each, when-hit, when-miss, never}
@@ -356,8 +356,9 @@ calls-leave s Reset = refl
 calls-leave s Grant = refl
 calls-leave s (Run m d r limit eop) = refl
 calls-leave s (Round m d r k) = sym (round-is-calls s m d r k .leaves)
-calls-leave s (SheetWriting out) = refl
-calls-leave s (SheetReading bytes) = refl
+calls-leave s (SheetWriting form out) = refl
+calls-leave s (SheetReading form bytes) = refl
+calls-leave s (Converting to source out) = refl
 
 pub spelled-leads : SpelledLeads
 spelled-leads s [] = refl

@@ -17,8 +17,11 @@ use Rattle.am9517.specs.declared.Controller.{Controller}
 use Rattle.am9517.specs.declared.Edition.the-variants.{Am9517A}
 use Rattle.am9517_service.specs.Answers.{ranOf, runGrounds}
 use Rattle.am9517_service.specs.RoundAnswers.{roundedOf, roundGrounds}
-use Rattle.am9517_sheet.specs.declared.forms.Form.the-variants.{One}
+use Rattle.am9517_sheet.specs.declared.forms.Form.{Form}
+use Rattle.am9517_sheet.specs.declared.forms.Form.the-variants.{One, Two}
 use Rattle.am9517_sheet.specs.Sheet.{sheetWriteGrounds, sheetReadGrounds, sheetWriteOf, sheetReadOf}
+use Rattle.am9517_sheet.specs.Form.{other}
+use Rattle.am9517_sheet.specs.Convert.{convertGrounds, convertOf}
 use Rattle.c_am9517.specs.declared.Told.{Told}
 use Rattle.c_am9517.specs.Numbers.{editionByte, told}
 use Rattle.c_am9517.specs.Host.{lookGrounds, lookOf, Left, callOf, loadOf, Saved, saveOf, RunLeft, runCallOf, RoundLeft, roundCallOf}
@@ -42,8 +45,9 @@ pub data Call : Type 0 where
   CRun : List ℕ → List ℕ → List ℕ → ℕ → ℕ → Call
   -- memory, device bytes, room, k
   CRound : List ℕ → List ℕ → List ℕ → ℕ → Call
-  -- the bytes into which the sheet is written, or from which it is read
-  CSave CLoad : List ℕ → Call
+  -- form, and the bytes into which the sheet is written, or from which it is read: am9517_save and am9517_load for form 1,
+  -- am9517_save2 and am9517_load2 for form 2
+  CSave CLoad : Form → List ℕ → Call
 
 -- what a call says, the refusal's number and the numbers beside it, and what it leaves of the chip and of the bytes that it was lent
 pub record Spoken : Type 0 where
@@ -93,8 +97,8 @@ does s CReset = leftBy (callOf (resetOf s))
 does s CGrant = leftBy (callOf (grantOf s))
 does s (CRun m d r limit eop) = ranBy (runCallOf (ranOf s m d r limit eop))
 does s (CRound m d r k) = roundBy (roundCallOf (roundedOf s m d r k))
-does s (CSave bytes) = savedBy s (saveOf (sheetWriteOf One s bytes))
-does s (CLoad bytes) = leftBy (loadOf (sheetReadOf One s bytes))
+does s (CSave form bytes) = savedBy s (saveOf (sheetWriteOf form s bytes))
+does s (CLoad form bytes) = leftBy (loadOf (sheetReadOf form s bytes))
 
 -- what a call is lent to change; a part that it isn't lent is empty
 abbrev pub lentTo : Controller → Call → Scene
@@ -109,8 +113,8 @@ lentTo s CReset = scene s [] [] []
 lentTo s CGrant = scene s [] [] []
 lentTo s (CRun m d r limit eop) = scene s m r []
 lentTo s (CRound m d r k) = scene s m r []
-lentTo s (CSave bytes) = scene s [] [] bytes
-lentTo s (CLoad bytes) = scene s [] [] []
+lentTo s (CSave form bytes) = scene s [] [] bytes
+lentTo s (CLoad form bytes) = scene s [] [] []
 
 -- what refuses a call: a look by 1 alone, the others by their operation's own grounds
 abbrev pub callGrounds : Controller → Call → List (Ground ℕ)
@@ -125,8 +129,8 @@ callGrounds s CReset = resetGrounds s
 callGrounds s CGrant = grantGrounds s
 callGrounds s (CRun m d r limit eop) = runGrounds s m
 callGrounds s (CRound m d r k) = roundGrounds s m k
-callGrounds s (CSave bytes) = sheetWriteGrounds One s (length bytes)
-callGrounds s (CLoad bytes) = sheetReadGrounds One bytes
+callGrounds s (CSave form bytes) = sheetWriteGrounds form s (length bytes)
+callGrounds s (CLoad form bytes) = sheetReadGrounds form bytes
 
 pub record CallRefuses (s : Spoken) (grounds : List (Ground ℕ)) (was : Scene) : Type 0 where
   -- The call says a number exactly when its ground is the first that holds;
@@ -136,8 +140,11 @@ pub record CallRefuses (s : Spoken) (grounds : List (Ground ℕ)) (was : Scene) 
   -- and says its number only: all beside it is 0.
   pub only : ¬ (s .refusal ≡ 0) → All (λ (n : ℕ). n ≡ 0) (s .beside)
 
-abbrev pub Demand1OfCalls : Type 0
-Demand1OfCalls = (s : Controller) (c : Call) → CallRefuses (does s c) (callGrounds s c) (lentTo s c)
+pub record Demand1OfCalls : Type 0 where
+  pub calls : (s : Controller) (c : Call) → CallRefuses (does s c) (callGrounds s c) (lentTo s c)
+  -- am9517_forward (to form 2) and am9517_back (to form 1) are lent no chip; whatever chip s there is stays, too.
+  pub conversions : (s : Controller) (to : Form) (source target : List ℕ)
+      → CallRefuses (savedBy s (saveOf (convertOf to source target))) (convertGrounds (other to) to source (length target)) (scene s [] [] target)
 
 pub record ChipsStayGood : Type 0 where
   -- A fresh chip is in its ranges exactly where its edition is one of the two;
@@ -151,19 +158,21 @@ pub record ChipsStayGood : Type 0 where
   -- and the next call is refused by its operation's own grounds, if at all: not by 1, nor, but for a save and a load, by a number over 8.
   pub next : (s : Controller) (c then : Call) → valid s ≡ true → ¬ (does (does s c .leaves .controller) then .refusal ≡ 1)
   pub small : (s : Controller) (c : Call)
-      → ((bytes : List ℕ) → ¬ (c ≡ CSave bytes))
-      → ((bytes : List ℕ) → ¬ (c ≡ CLoad bytes))
+      → ((form : Form) (bytes : List ℕ) → ¬ (c ≡ CSave form bytes))
+      → ((form : Form) (bytes : List ℕ) → ¬ (c ≡ CLoad form bytes))
       → does s c .refusal ≤ 8
   -- 1 is said of every chip that is out of its ranges, but by a load, which asks nothing of what it replaces;
-  pub byOne : (s : Controller) (c : Call) → valid s ≡ false → ((bytes : List ℕ) → ¬ (c ≡ CLoad bytes)) → does s c .refusal ≡ 1
-  pub loadNeverBy1 : (s : Controller) (bytes : List ℕ) → ¬ (does s (CLoad bytes) .refusal ≡ 1)
-  -- An Am9517A in its ranges without wait states is saved into any bytes that have room, and any other chip in its ranges is refused by 15;
+  pub byOne : (s : Controller) (c : Call) → valid s ≡ false → ((form : Form) (bytes : List ℕ) → ¬ (c ≡ CLoad form bytes)) → does s c .refusal ≡ 1
+  pub loadNeverBy1 : (s : Controller) (form : Form) (bytes : List ℕ) → ¬ (does s (CLoad form bytes) .refusal ≡ 1)
+  -- A chip in its ranges is saved in form 2 into any bytes that have room;
+  pub saved2 : (s : Controller) (bytes : List ℕ) → valid s ≡ true → 58 ≤ length bytes → does s (CSave Two bytes) .refusal ≡ 0
+  -- in form 1 an Am9517A without wait states is saved so, and any other chip in its ranges is refused by 15;
   pub saved : (s : Controller) (bytes : List ℕ) → valid s ≡ true → s .edition ≡ numberOf Am9517A → s .waits ≡ 0 → 56 ≤ length bytes
-      → does s (CSave bytes) .refusal ≡ 0
+      → does s (CSave One bytes) .refusal ≡ 0
   pub unsaved : (s : Controller) (bytes : List ℕ) → valid s ≡ true → ¬ ((s .edition ≡ numberOf Am9517A) × (s .waits ≡ 0)) → 56 ≤ length bytes
-      → does s (CSave bytes) .refusal ≡ 15
+      → does s (CSave One bytes) .refusal ≡ 15
   -- what was saved is loaded, whatever chip t it is loaded into, as it was. (Four channels are the type [Channel; 4].)
-  pub loaded : (s t : Controller) (bytes : List ℕ)
+  pub loaded : (form : Form) (s t : Controller) (bytes : List ℕ)
       → length (s .channels) ≡ 4
-      → does s (CSave bytes) .refusal ≡ 0
-      → does t (CLoad (does s (CSave bytes) .leaves .slice)) ≡ record { refusal = 0; beside = 0 ∷ []; leaves = scene s [] [] [] }
+      → does s (CSave form bytes) .refusal ≡ 0
+      → does t (CLoad form (does s (CSave form bytes) .leaves .slice)) ≡ record { refusal = 0; beside = 0 ∷ []; leaves = scene s [] [] [] }

@@ -9,7 +9,7 @@ use Rattle.am9517.specs.Modes.{rotating}
 use Rattle.am9517.specs.Serving.{entitled}
 use Rattle.am9517.specs.declared.Controller.{Controller}
 use Rattle.demands.specs.Lists.{All, count}
-use Rattle.demands.specs.Operations.{Op, Write, Read, Pins, Reset, Waits, Grant, Run, Round, SheetWriting, SheetReading, next, said}
+use Rattle.demands.specs.Operations.{Op, Write, Read, Pins, Reset, Waits, Grant, Run, Round, SheetWriting, SheetReading, Converting, next, said}
 use Rattle.demands.specs.Grants.{Granted, grants, channels}
 use Rattle.demands.specs.Rounds.{calls, reported, callsOf, spelled}
 
@@ -23,8 +23,9 @@ Restarts (Waits n) = ⊥
 Restarts Grant = ⊥
 Restarts (Run m d r limit eop) = ⊥
 Restarts (Round m d r k) = ⊥
-Restarts (SheetWriting out) = ⊥
-Restarts (SheetReading bytes) = Unit
+Restarts (SheetWriting form out) = ⊥
+Restarts (SheetReading form bytes) = Unit
+Restarts (Converting to source out) = ⊥
 
 -- An operation of a trace, called in state s: none of these three, or refused.
 abbrev pub Traced : Controller → Op → Type 0

@@ -5,7 +5,7 @@ use Rattle.am9517.specs.Answers.{grantOf}
 use Rattle.am9517.specs.declared.Controller.{Controller}
 use Rattle.am9517.specs.declared.Answer.{Answer}
 use Rattle.am9517.specs.declared.Answer.the-variants.{Done, Value, Refused}
-use Rattle.demands.specs.Operations.{Op, Write, Read, Pins, Reset, Waits, Grant, Run, Round, SheetWriting, SheetReading, next}
+use Rattle.demands.specs.Operations.{Op, Write, Read, Pins, Reset, Waits, Grant, Run, Round, SheetWriting, SheetReading, Converting, next}
 
 -- A grant: the state that it was made in, and the channel that it went to.
 pub record Granted : Type 0 where
@@ -28,8 +28,9 @@ made s (Waits n) = []
 made s Grant = told s (grantOf s .answer)
 made s (Run m d r limit eop) = []
 made s (Round m d r k) = []
-made s (SheetWriting out) = []
-made s (SheetReading bytes) = []
+made s (SheetWriting form out) = []
+made s (SheetReading form bytes) = []
+made s (Converting to source out) = []
 
 -- the grants made, in order, when these operations are called one after the other from state s on
 abbrev pub grants : Controller → List Op → List Granted

@@ -6,8 +6,9 @@ use Rattle.am9517.specs.declared.Controller.{Controller}
 use Rattle.am9517_service.specs.declared.Counts.{Counts}
 use Rattle.am9517_service.specs.Answers.{Given, runRefusalNumber, ranOf}
 use Rattle.am9517_service.specs.RoundAnswers.{RoundGiven, roundRefusalNumber, roundedOf}
-use Rattle.am9517_sheet.specs.declared.forms.Form.the-variants.{One}
+use Rattle.am9517_sheet.specs.declared.forms.Form.{Form}
 use Rattle.am9517_sheet.specs.Sheet.{sheetRefusalNumber, sheetWriteOf, sheetReadOf}
+use Rattle.am9517_sheet.specs.Convert.{convertOf}
 
 pub data Op : Type 0 where
   -- register, byte
@@ -24,10 +25,12 @@ pub data Op : Type 0 where
   Run : List ℕ → List ℕ → List ℕ → ℕ → ℕ → Op
   -- memory, device bytes, room, k
   Round : List ℕ → List ℕ → List ℕ → ℕ → Op
-  -- the target slice
-  SheetWriting : List ℕ → Op
-  -- the bytes
-  SheetReading : List ℕ → Op
+  -- form, target slice
+  SheetWriting : Form → List ℕ → Op
+  -- form, bytes
+  SheetReading : Form → List ℕ → Op
+  -- to this form, source, target slice
+  Converting : Form → List ℕ → List ℕ → Op
 
 -- All that an operation may change; a part that it isn't lent is empty.
 pub record Scene : Type 0 where
@@ -48,8 +51,9 @@ before s (Waits n) = scene s [] [] []
 before s Grant = scene s [] [] []
 before s (Run m d r limit eop) = scene s m r []
 before s (Round m d r k) = scene s m r []
-before s (SheetWriting out) = scene s [] [] out
-before s (SheetReading bytes) = scene s [] [] []
+before s (SheetWriting form out) = scene s [] [] out
+before s (SheetReading form bytes) = scene s [] [] []
+before s (Converting to source out) = scene s [] [] out
 
 abbrev pub ranScene : Given → Scene
 ranScene g = scene (g .ran .controller) (g .memory) (g .room) []
@@ -66,8 +70,9 @@ after s (Waits n) = scene (waitsOf s n .controller) [] [] []
 after s Grant = scene (grantOf s .controller) [] [] []
 after s (Run m d r limit eop) = ranScene (ranOf s m d r limit eop)
 after s (Round m d r k) = roundScene (roundedOf s m d r k)
-after s (SheetWriting out) = scene s [] [] (sheetWriteOf One s out .bytes)
-after s (SheetReading bytes) = scene (sheetReadOf One s bytes .controller) [] [] []
+after s (SheetWriting form out) = scene s [] [] (sheetWriteOf form s out .bytes)
+after s (SheetReading form bytes) = scene (sheetReadOf form s bytes .controller) [] [] []
+after s (Converting to source out) = scene s [] [] (convertOf to source out .bytes)
 
 -- the next state
 abbrev pub next : Controller → Op → Controller
@@ -88,8 +93,9 @@ said s (Waits n) = refusalNumber (waitsOf s n .answer)
 said s Grant = refusalNumber (grantOf s .answer)
 said s (Run m d r limit eop) = runRefusalNumber (ranOf s m d r limit eop .ran .answer)
 said s (Round m d r k) = roundRefusalNumber (roundedOf s m d r k .rounded .answer)
-said s (SheetWriting out) = sheetRefusalNumber (sheetWriteOf One s out .answer)
-said s (SheetReading bytes) = sheetRefusalNumber (sheetReadOf One s bytes .answer)
+said s (SheetWriting form out) = sheetRefusalNumber (sheetWriteOf form s out .answer)
+said s (SheetReading form bytes) = sheetRefusalNumber (sheetReadOf form s bytes .answer)
+said s (Converting to source out) = sheetRefusalNumber (convertOf to source out .answer)
 
 abbrev pub listed : Counts → List ℕ
 listed n = n .transfers ∷ n .used ∷ n .written ∷ n .states ∷ []
@@ -104,5 +110,6 @@ counts s (Waits n) = []
 counts s Grant = []
 counts s (Run m d r limit eop) = listed (ranOf s m d r limit eop .ran .counts)
 counts s (Round m d r k) = roundedOf s m d r k .rounded .services ++ listed (roundedOf s m d r k .rounded .totals)
-counts s (SheetWriting out) = []
-counts s (SheetReading bytes) = []
+counts s (SheetWriting form out) = []
+counts s (SheetReading form bytes) = []
+counts s (Converting to source out) = []

@@ -10,10 +10,11 @@ use Rattle.am9517.specs.Refusals.{writeGrounds, readGrounds, pinsGrounds, reset
 use Rattle.am9517.specs.declared.Controller.{Controller}
 use Rattle.am9517_service.specs.Answers.{runGrounds}
 use Rattle.am9517_service.specs.RoundAnswers.{roundGrounds}
-use Rattle.am9517_sheet.specs.declared.forms.Form.the-variants.{One}
 use Rattle.am9517_sheet.specs.Sheet.{sheetWriteGrounds, sheetReadGrounds}
+use Rattle.am9517_sheet.specs.Form.{other}
+use Rattle.am9517_sheet.specs.Convert.{convertGrounds}
 use Rattle.demands.specs.Lists.{All}
-use Rattle.demands.specs.Operations.{Op, Write, Read, Pins, Reset, Waits, Grant, Run, Round, SheetWriting, SheetReading, before, after, said, counts}
+use Rattle.demands.specs.Operations.{Op, Write, Read, Pins, Reset, Waits, Grant, Run, Round, SheetWriting, SheetReading, Converting, before, after, said, counts}
 
 -- document 01's table of numbers, each "given exactly when" its ground is the first that holds; in its order for each operation: the very
 -- lists of the crates
@@ -26,8 +27,9 @@ grounds s (Waits n) = waitsGrounds s
 grounds s Grant = grantGrounds s
 grounds s (Run m d r limit eop) = runGrounds s m
 grounds s (Round m d r k) = roundGrounds s m k
-grounds s (SheetWriting out) = sheetWriteGrounds One s (length out)
-grounds s (SheetReading bytes) = sheetReadGrounds One bytes
+grounds s (SheetWriting form out) = sheetWriteGrounds form s (length out)
+grounds s (SheetReading form bytes) = sheetReadGrounds form bytes
+grounds s (Converting to source out) = convertGrounds (other to) to source (length out)
 
 -- n is the number of a ground that holds, and none before it does
 pub data First (n : ℕ) : List (Ground ℕ) → Type 0 where

@@ -21,7 +21,7 @@ use Rattle.am9517_service.specs.Answers.{Given, ranOf}
 use Rattle.am9517_service.specs.Round.{nobody, isEnded}
 use Rattle.am9517_service.specs.RoundAnswers.{roundGrounds, roundedOf}
 use Rattle.demands.specs.Lists.{count}
-use Rattle.demands.specs.Operations.{Op, Write, Read, Pins, Reset, Waits, Grant, Run, Round, SheetWriting, SheetReading, next, afterAll, said}
+use Rattle.demands.specs.Operations.{Op, Write, Read, Pins, Reset, Waits, Grant, Run, Round, SheetWriting, SheetReading, Converting, next, afterAll, said}
 use Rattle.demands.specs.Grants.{grants, channels}
 
 -- the run stopped, and its service ended
@@ -55,8 +55,9 @@ gave s (Waits n) = []
 gave s Grant = []
 gave s (Run m d r limit eop) = ranOf s m d r limit eop ∷ []
 gave s (Round m d r k) = []
-gave s (SheetWriting out) = []
-gave s (SheetReading bytes) = []
+gave s (SheetWriting form out) = []
+gave s (SheetReading form bytes) = []
+gave s (Converting to source out) = []
 
 -- what the runs among these calls give, in their order
 abbrev pub runs : Controller → List Op → List Given
@@ -140,8 +141,9 @@ callsOf s (Waits n) = Waits n ∷ []
 callsOf s Grant = Grant ∷ []
 callsOf s (Run m d r limit eop) = Run m d r limit eop ∷ []
 callsOf s (Round m d r k) = calls s m d r k
-callsOf s (SheetWriting out) = SheetWriting out ∷ []
-callsOf s (SheetReading bytes) = SheetReading bytes ∷ []
+callsOf s (SheetWriting form out) = SheetWriting form out ∷ []
+callsOf s (SheetReading form bytes) = SheetReading form bytes ∷ []
+callsOf s (Converting to source out) = Converting to source out ∷ []
 
 abbrev pub spelled : Controller → List Op → List Op
 spelled s [] = []

@@ -36,14 +36,17 @@ use Rattle.am9517_service.specs.ClosedLegs.{addressAfter, currentAfter, entered
 use Rattle.am9517_service.specs.ClosedSpans.{untilEnd, stockOf}
 use Rattle.am9517_service.specs.declared.Reason.the-variants.{Ended}
 use Rattle.am9517_sheet.specs.Bytes.{total}
-use Rattle.am9517_sheet.specs.declared.forms.Form.the-variants.{One}
+use Rattle.am9517_sheet.specs.declared.forms.Form.the-variants.{One, Two}
 use Rattle.am9517_sheet.specs.Body.{bodyOf, exceeds, stateOf}
-use Rattle.am9517_sheet.specs.Sheet.{answerOf}
+use Rattle.am9517_sheet.specs.declared.forms.Form.{Form}
+use Rattle.am9517_sheet.specs.Form.{other, sheetSize}
+use Rattle.am9517_sheet.specs.Sheet.{answerOf, sheetOf}
+use Rattle.am9517_sheet.specs.Convert.{convertGrounds}
 use Rattle.demands.specs.Lists.{All, none, also}
-use Rattle.demands.specs.Operations.{Grant, Run, Round, SheetWriting, SheetReading, next, afterAll, said}
+use Rattle.demands.specs.Operations.{Grant, Run, Round, SheetWriting, SheetReading, Converting, next, afterAll, said}
 use Rattle.demands.specs.Grants.{Granted, told, grants, channels}
 use Rattle.demands.specs.Fairness.{Contends}
-use Rattle.owner.specs.Cases.{Holds, services, setUp, idleWith, ch, proved, requested, whole, limits, editionLimits, slowed, waitLimits, WorkedCases, Tight, p5, p6}
+use Rattle.owner.specs.Cases.{Holds, services, setUp, idleWith, ch, proved, requested, whole, limits, editionLimits, slowed, waitLimits, slowIntel, formLimits, WorkedCases, Tight, p5, p6}
 use Rattle.words.proofs.ChoiceLaws.{when-hit, never}
 use Rattle.am9517_service.proofs.AnswerLaws.{run-accepted}
 use Rattle.am9517_service.proofs.LegRunLaws.{run-ends}
@@ -147,13 +150,17 @@ unfolding refusal first
 round-says s m d r k w e = round-told s m d r k ∙ ap (λ (t : Bool). when (not (valid s)) 1 (when (ltb 4096 k) 2 (when t 7 (when (busy s) 3 0)))) e
 
 -- the numbers that sheets say, by the size of the slice
-sheet-writing-says : (s : Controller) (out : List ℕ) (n : ℕ) → length out ≡ n → said s (SheetWriting out) ≡ when (not (valid s)) 1 (when (ltb n 56) 9 (when (exceeds One s) 15 0))
+sheet-writing-says : (form : Form) (s : Controller) (out : List ℕ) (n : ℕ) → length out ≡ n
+    → said s (SheetWriting form out) ≡ when (not (valid s)) 1 (when (ltb n (sheetSize form)) 9 (when (exceeds form s) 15 0))
 unfolding refusal first
-sheet-writing-says s out n h = number-said _ ∙ ap (λ (k : ℕ). when (not (valid s)) 1 (when (ltb k 56) 9 (when (exceeds One s) 15 0))) h
+sheet-writing-says form s out n h = number-said _ ∙ ap (λ (k : ℕ). when (not (valid s)) 1 (when (ltb k (sheetSize form)) 9 (when (exceeds form s) 15 0))) h
 
-sheet-reading-says : (s : Controller) (bytes : List ℕ) (n : ℕ) → length bytes ≡ n → n < 56 → said s (SheetReading bytes) ≡ 9
+sheet-reading-says : (form : Form) (s : Controller) (bytes : List ℕ) (n : ℕ) → length bytes ≡ n → n < sheetSize form → said s (SheetReading form bytes) ≡ 9
 unfolding refusal first
-sheet-reading-says s bytes n h l = number-said _ ∙ when-hit (ltb (length bytes) 56) _ _ (lt-ltb (length bytes) 56 (omega arith))
+sheet-reading-says form s bytes n h l = number-said _ ∙ when-hit (ltb (length bytes) (sheetSize form)) _ _ (lt-ltb (length bytes) (sheetSize form) (omega arith))
+
+converting-says : (to : Form) (s : Controller) (source out : List ℕ) (n : ℕ) → length out ≡ n → said s (Converting to source out) ≡ refusal (convertGrounds (other to) to source n)
+converting-says to s source out n h = number-said _ ∙ ap (λ (k : ℕ). refusal (convertGrounds (other to) to source k)) h
 
 -- 65,536 transfers, by the law of a service that ends with its n-th transfer
 module _ (a : ℕ) (below : a < 65536) (m : List ℕ) where
@@ -218,9 +225,9 @@ limit-cases =
     (also (λ m h. refl)
     (also (λ m h. round-says (fresh 0) m [] [] 4096 false (sized m h))
     (also (λ m h. round-says (fresh 0) m [] [] 4097 false (sized m h))
-    (also (λ m h. sheet-writing-says (fresh 0) m 55 h)
-    (also (λ m h. sheet-writing-says (fresh 0) m 56 h)
-    (also (λ m h. sheet-reading-says (fresh 0) m 55 h (omega arith))
+    (also (λ m h. sheet-writing-says One (fresh 0) m 55 h)
+    (also (λ m h. sheet-writing-says One (fresh 0) m 56 h)
+    (also (λ m h. sheet-reading-says One (fresh 0) m 55 h (omega arith))
     (also (λ m h. refl)
     (also (λ m h. run-says _ m [] [] 65536 0 true (missized m 65535 h (λ e. omega arith)))
     (also (λ m h. run-says _ m [] [] 65536 0 false (sized m h))
@@ -235,9 +242,9 @@ edition-cases =
     also (λ m h. refl)
     (also (λ m h. refl)
     (also (λ m h. refl)
-    (also (λ m h. sheet-writing-says (fresh 1) m 55 h)
-    (also (λ m h. sheet-writing-says (fresh 1) m 56 h)
-    (also (λ m h. sheet-writing-says (fresh 2) m 55 h)
+    (also (λ m h. sheet-writing-says One (fresh 1) m 55 h)
+    (also (λ m h. sheet-writing-says One (fresh 1) m 56 h)
+    (also (λ m h. sheet-writing-says One (fresh 2) m 55 h)
     (also (λ m h. refl) none))))))
 
 wait-cases : All Holds waitLimits
@@ -247,16 +254,32 @@ wait-cases =
     also (λ m h. refl)
     (also (λ m h. refl)
     (also (λ m h. refl)
-    (also (λ m h. sheet-writing-says slowed m 55 h)
-    (also (λ m h. sheet-writing-says slowed m 56 h)
-    (also (λ m h. sheet-writing-says (put slowed Edition 1) m 56 h) none)))))
+    (also (λ m h. sheet-writing-says One slowed m 55 h)
+    (also (λ m h. sheet-writing-says One slowed m 56 h)
+    (also (λ m h. sheet-writing-says One (put slowed Edition 1) m 56 h) none)))))
+
+form-cases : All Holds formLimits
+unfolding
+    when _and_ first modeValid modesValid fieldsValid serviceValid valid refusal answerOf total bodyOf stateOf exceeds
+form-cases =
+    also (λ m h. sheet-writing-says Two slowIntel m 57 h)
+    (also (λ m h. sheet-writing-says Two slowIntel m 58 h)
+    (also (λ m h. sheet-writing-says Two (fresh 2) m 57 h)
+    (also (λ m h. sheet-reading-says Two (fresh 0) m 57 h (omega arith))
+    (also (λ m h. refl)
+    (also (λ m h. refl)
+    (also (λ m h. converting-says Two (fresh 0) (sheetOf One (fresh 0)) m 57 h)
+    (also (λ m h. converting-says Two (fresh 0) (sheetOf One (fresh 0)) m 58 h)
+    (also (λ m h. converting-says One (fresh 0) (sheetOf Two slowed) m 55 h)
+    (also (λ m h. converting-says One (fresh 0) (sheetOf Two slowed) m 56 h)
+    (also (λ m h. converting-says One (fresh 0) (sheetOf Two (fresh 0)) m 56 h) none))))))))))
 
 all-both : {A : Type 0} {P : A → Type 0} {xs ys : List A} → All P xs → All P ys → All P (xs ++ ys)
 all-both none h = h
 all-both (also p g) h = also p (all-both g h)
 
 pub worked-cases : WorkedCases
-worked-cases = all-both proved-cases (all-both requested-cases (all-both whole-cases (all-both limit-cases (all-both edition-cases wait-cases))))
+worked-cases = all-both proved-cases (all-both requested-cases (all-both whole-cases (all-both limit-cases (all-both edition-cases (all-both wait-cases form-cases)))))
 
 pub tight : Tight
 unfolding active requestCounts entitled

@@ -1,7 +1,7 @@
 -- All that the owner asked for, proved.
 use Rattle.owner.specs.Owner.{Owner}
 use Rattle.demands.proofs.Refusals.{demand-1}
-use Rattle.demands.proofs.Calls.{demand-1-of-calls, chips-stay-good}
+use Rattle.demands.proofs.Calls.{demand-1-in-c, chips-stay-good}
 use Rattle.demands.proofs.Outcomes.{one-outcome, one-outcome-of-calls, one-outcome-where-asked}
 use Rattle.demands.proofs.Ranges.{ranges-kept}
 use Rattle.demands.proofs.Steps.{steps-over-the-width}
@@ -12,13 +12,14 @@ use Rattle.requests.proofs.Copies.{copy-loop}
 use Rattle.requests.proofs.Editions.{editions-differ}
 use Rattle.requests.proofs.Waits.{slow-cards}
 use Rattle.requests.proofs.Most.{most-counted}
+use Rattle.requests.proofs.Forms.{sheet-forms}
 use Rattle.owner.proofs.Cases.{worked-cases, tight}
 
 pub owner : Owner
 owner =
     record {
       refusals = demand-1;
-      refusalsInC = demand-1-of-calls;
+      refusalsInC = demand-1-in-c;
       oneOutcome = one-outcome;
       oneOutcomeInC = one-outcome-of-calls;
       oneOutcomeWhereAsked = one-outcome-where-asked;
@@ -37,5 +38,6 @@ owner =
       editions = editions-differ;
       slowCards = slow-cards;
       most = most-counted;
+      sheetForms = sheet-forms;
       tight = tight;
     }

@@ -15,11 +15,11 @@ use Rattle.am9517_service.specs.declared.Reason.the-variants.{Ended}
 use Rattle.am9517_service.specs.declared.RunAnswer.the-variants.{Stopped}
 use Rattle.am9517_service.specs.Counts.{counts}
 use Rattle.am9517_service.specs.Answers.{Given, given, ranOf}
-use Rattle.am9517_sheet.specs.declared.forms.Form.the-variants.{One}
+use Rattle.am9517_sheet.specs.declared.forms.Form.the-variants.{One, Two}
 use Rattle.am9517_sheet.specs.Sheet.{sheetOf}
 use Rattle.demands.specs.Lists.{All}
 use Rattle.demands.specs.Operations as op
-use Rattle.demands.specs.Operations.{Op, Write, Read, Reset, Grant, Run, Round, SheetWriting, SheetReading, afterAll, said}
+use Rattle.demands.specs.Operations.{Op, Write, Read, Reset, Grant, Run, Round, SheetWriting, SheetReading, Converting, afterAll, said}
 use Rattle.demands.specs.Grants.{grants, channels}
 use Rattle.demands.specs.Fairness.{Contends}
 
@@ -295,10 +295,10 @@ limits =
     ∷ called 0 (λ m. Read 15) 4
     ∷ called 65536 (λ m. Round m [] [] 4096) 0
     ∷ called 65536 (λ m. Round m [] [] 4097) 2
-    ∷ called 55 (λ m. SheetWriting m) 9
-    ∷ called 56 (λ m. SheetWriting m) 0
-    ∷ called 55 (λ m. SheetReading m) 9
-    ∷ called 0 (λ m. SheetReading (sheetOf One (fresh (numberOf Am9517A)))) 0
+    ∷ called 55 (λ m. SheetWriting One m) 9
+    ∷ called 56 (λ m. SheetWriting One m) 0
+    ∷ called 55 (λ m. SheetReading One m) 9
+    ∷ called 0 (λ m. SheetReading One (sheetOf One (fresh (numberOf Am9517A)))) 0
     ∷ running 65535 (λ m. Run m [] [] 65536 0) 7
     ∷ running 65536 (λ m. Run m [] [] 65536 0) 0
     ∷ running 65537 (λ m. Run m [] [] 65536 0) 7
@@ -312,9 +312,9 @@ editionLimits =
     called 0 (λ m. Write 14 0) 4
     ∷ calledIn (numberOf Intel8237A) 0 (λ m. Write 14 0) 0
     ∷ calledIn (numberOf Intel8237A) 0 (λ m. Read 14) 4
-    ∷ calledIn (numberOf Intel8237A) 55 (λ m. SheetWriting m) 9
-    ∷ calledIn (numberOf Intel8237A) 56 (λ m. SheetWriting m) 15
-    ∷ calledIn 2 55 (λ m. SheetWriting m) 1
+    ∷ calledIn (numberOf Intel8237A) 55 (λ m. SheetWriting One m) 9
+    ∷ calledIn (numberOf Intel8237A) 56 (λ m. SheetWriting One m) 15
+    ∷ calledIn 2 55 (λ m. SheetWriting One m) 1
     ∷ calledIn 2 0 (λ m. Reset) 1
     ∷ []
 
@@ -328,13 +328,33 @@ waitLimits =
     called 0 (λ m. op.Waits 255) 0
     ∷ running 0 (λ m. op.Waits 0) 3
     ∷ calledIn 2 0 (λ m. op.Waits 0) 1
-    ∷ calledFrom slowed 55 (λ m. SheetWriting m) 9
-    ∷ calledFrom slowed 56 (λ m. SheetWriting m) 15
-    ∷ calledFrom (put slowed Edition (numberOf Intel8237A)) 56 (λ m. SheetWriting m) 15
+    ∷ calledFrom slowed 55 (λ m. SheetWriting One m) 9
+    ∷ calledFrom slowed 56 (λ m. SheetWriting One m) 15
+    ∷ calledFrom (put slowed Edition (numberOf Intel8237A)) 56 (λ m. SheetWriting One m) 15
+    ∷ []
+
+-- a fresh Intel chip with one wait state
+abbrev pub slowIntel : Controller
+slowIntel = put slowed Edition (numberOf Intel8237A)
+
+-- A5: "Reading and writing form 2 keep 01's order, with 58 in refusal 9"; "the order is 9 (source or target too short), 10 to 14, then 15"
+abbrev pub formLimits : List Case
+formLimits =
+    calledFrom slowIntel 57 (λ m. SheetWriting Two m) 9
+    ∷ calledFrom slowIntel 58 (λ m. SheetWriting Two m) 0
+    ∷ calledIn 2 57 (λ m. SheetWriting Two m) 1
+    ∷ called 57 (λ m. SheetReading Two m) 9
+    ∷ called 0 (λ m. SheetReading Two (sheetOf Two slowIntel)) 0
+    ∷ called 0 (λ m. SheetReading Two (sheetOf Two (put slowIntel Edition 2))) 14
+    ∷ called 57 (λ m. Converting Two (sheetOf One (fresh (numberOf Am9517A))) m) 9
+    ∷ called 58 (λ m. Converting Two (sheetOf One (fresh (numberOf Am9517A))) m) 0
+    ∷ called 55 (λ m. Converting One (sheetOf Two slowed) m) 9
+    ∷ called 56 (λ m. Converting One (sheetOf Two slowed) m) 15
+    ∷ called 56 (λ m. Converting One (sheetOf Two (fresh (numberOf Am9517A))) m) 0
     ∷ []
 
 abbrev pub cases : List Case
-cases = proved ++ (requested ++ (whole ++ (limits ++ (editionLimits ++ waitLimits))))
+cases = proved ++ (requested ++ (whole ++ (limits ++ (editionLimits ++ (waitLimits ++ formLimits)))))
 
 -- Every case holds.
 abbrev pub WorkedCases : Type 0

@@ -11,6 +11,7 @@ use Rattle.requests.specs.Copies.{CopyLoop}
 use Rattle.requests.specs.Editions.{EditionsDiffer}
 use Rattle.requests.specs.Waits.{SlowCards}
 use Rattle.requests.specs.Most.{MostCounted}
+use Rattle.requests.specs.Forms.{SheetForms}
 use Rattle.owner.specs.Cases.{WorkedCases, Tight}
 
 pub record Owner : Type 2 where
@@ -25,7 +26,7 @@ pub record Owner : Type 2 where
   -- The step is shown once over the width, and the worked cases hold.
   pub steps : StepsOverTheWidth
   pub cases : WorkedCases
-  -- Sheets are read as they were written, and written as they were read.
+  -- Sheets of either form are read as they were written, and written as they were read.
   pub sheetTrips : RoundTrips
   -- Ranges are kept, and so is a chip in its ranges that a C program owns.
   pub ranges : RangesKept
@@ -48,5 +49,8 @@ pub record Owner : Type 2 where
   -- more, of memory-to-memory twice that, and nothing else changes; the most that a run and a round count is this, it fits, and it is reached.
   pub slowCards : SlowCards
   pub most : MostCounted
+  -- Document 02, A5: sheets convert between the forms with the state that they tell, there and back to the same bytes; a reader refuses a sheet of
+  -- the other form, and one with a changed byte.
+  pub sheetForms : SheetForms
   -- Demand 3's numbers can't be better.
   pub tight : Tight

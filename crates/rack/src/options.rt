@@ -135,7 +135,7 @@ pub(crate) fn read_options() -> Options {
 }
 
 pub(crate) fn say_version() {
-    io::write_all(STDOUT_FILENO, b"rack 4.0.0\n");
+    io::write_all(STDOUT_FILENO, b"rack 4.1.0\n");
 }
 
 pub(crate) fn say_help() {

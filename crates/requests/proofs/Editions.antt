@@ -29,15 +29,14 @@ use Rattle.am9517_service.specs.Answers.{Given, given, stopped, refusedOf, wron
 use Rattle.am9517_service.specs.RoundAnswers.{RoundGiven, roundGiven, closed, roundGrounds, roundedOf}
 use Rattle.am9517_service.specs.Round.{beginning, Close, close, roundOf}
 use Rattle.am9517_service.specs.declared.RoundAnswer.the-variants as round
-use Rattle.am9517_sheet.specs.declared.forms.Form.the-variants.{One}
 use Rattle.am9517_sheet.specs.Body.{stateOf}
 use Rattle.am9517_sheet.specs.Sheet.{sheetIn, sheetReadGrounds}
-use Rattle.demands.specs.Operations.{Op, Write, Read, Pins, Reset, Waits, Grant, Run, Round, SheetWriting, SheetReading, scene, after, ranScene, roundScene}
+use Rattle.demands.specs.Operations.{Op, Write, Read, Pins, Reset, Waits, Grant, Run, Round, SheetWriting, SheetReading, Converting, scene, after, ranScene, roundScene}
 use Rattle.requests.specs.Editions.{ours, intel, Told, RunTold, RoundTold, reply, MeetsEop, Shared, asIntel, SameInBoth, withTc, EditionsDiffer}
 use Rattle.words.proofs.ChoiceLaws.{when-over}
 use Rattle.words.proofs.GroundLaws.{first-over}
 use Rattle.am9517_service.proofs.AnswerLaws.{run-refused, run-accepted}
-use Rattle.demands.proofs.Sheets.{zero-written, other-refused}
+use Rattle.demands.proofs.Sheets.{full-written, zero-written, other-refused}
 use Rattle.requests.proofs.LastLaws.{edition-kept}
 use Rattle.requests.proofs.EditionRunLaws.{marked, meets, inStop, Ahead, not-yet, run-in}
 use Rattle.requests.proofs.EditionRoundLaws.{inClose, picked-in, granted-in, round-in}
@@ -218,8 +217,9 @@ shared s Grant h =
     let p = alike s _ _ _ _ (Value (picked (ours s))) (Value (picked (intel s))) (grant-number s) (grant-in s) (ap Value (same-pick s)) in record { says = accessed s _ _ p; leaves = access-leaves s _ _ p }
 shared s (Run m d r limit eop) h = run-shared s m d r limit eop h
 shared s (Round m d r k) h = round-shared s m d r k
-shared s (SheetWriting out) h = absurd h
-shared s (SheetReading bytes) h = record { says = refl; leaves = ap (λ (c : Controller). scene c [] [] []) (read-sheet s (stateOf One (sheetIn One bytes)) (eqb (refusal (sheetReadGrounds One bytes)) 0)) }
+shared s (SheetWriting form out) h = absurd h
+shared s (SheetReading form bytes) h = record { says = refl; leaves = ap (λ (c : Controller). scene c [] [] []) (read-sheet s (stateOf form (sheetIn form bytes)) (eqb (refusal (sheetReadGrounds form bytes)) 0)) }
+shared s (Converting to source out) h = record { says = refl; leaves = refl }
 
 -- a write of E to an idle state in its ranges: its number
 e-number : (s : Controller) (b : ℕ) → valid s ≡ true → s .«in_service» ≡ 0 → refusal (writeGrounds s 0xE b) ≡ when (not (isIntel (s .edition))) 4 0
@@ -242,4 +242,5 @@ editions-differ =
       registerE = register-e;
       metEop = λ s m d r limit eop h. (run-says s m d r limit eop, run-met s m d r limit eop h);
       sheets = λ s out v w room. (other-refused (intel s) out v (λ e. omega (arith, e .0)) room, zero-written (ours s) out (sym (valid-in s) ∙ v) refl w room);
+      sheets2 = λ s out v room. (full-written (intel s) out v room, full-written (ours s) out (sym (valid-in s) ∙ v) room);
     }

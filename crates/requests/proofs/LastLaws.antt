@@ -20,7 +20,8 @@ use Rattle.am9517_service.specs.Run.{transferred, runOf}
 use Rattle.am9517_service.specs.Answers.{Given, stopped, runGrounds, ranOf}
 use Rattle.am9517_service.specs.Round.{Course, beginning, runNext, withRun, afterNext, isEnded, Close, roundOf}
 use Rattle.am9517_service.specs.RoundAnswers.{RoundGiven, closed, roundGrounds, roundedOf}
-use Rattle.demands.specs.Operations.{Op, Write, Read, Pins, Reset, Waits, Grant, Run, Round, SheetWriting, SheetReading, next}
+use Rattle.am9517_sheet.specs.declared.forms.Form.{Form}
+use Rattle.demands.specs.Operations.{Op, Write, Read, Pins, Reset, Waits, Grant, Run, Round, SheetWriting, SheetReading, Converting, next}
 use Rattle.words.proofs.ChoiceLaws.{when-both}
 use Rattle.am9517_service.proofs.KeepLaws.{run-ind}
 
@@ -111,8 +112,9 @@ Lasting s (Waits n) = Unit {0}
 Lasting s Grant = Lasts s (next s Grant)
 Lasting s (Run m d r limit eop) = Lasts s (next s (Run m d r limit eop))
 Lasting s (Round m d r k) = Lasts s (next s (Round m d r k))
-Lasting s (SheetWriting out) = Lasts s (next s (SheetWriting out))
-Lasting s (SheetReading bytes) = Unit {0}
+Lasting s (SheetWriting form out) = Lasts s (next s (SheetWriting form out))
+Lasting s (SheetReading form bytes) = Unit {0}
+Lasting s (Converting to source out) = Lasts s (next s (Converting to source out))
 
 lasting : (s : Controller) (op : Op) → Lasting s op
 lasting s (Write r b) = outcome-lasts s _ _ _ (write-lasts s r b)
@@ -123,10 +125,11 @@ lasting s (Waits n) = tt
 lasting s Grant = outcome-lasts s _ _ _ (grant-lasts s (picked s))
 lasting s (Run m d r limit eop) = ran-lasts s m d r limit eop
 lasting s (Round m d r k) = rounded-lasts s m d r k
-lasting s (SheetWriting out) = (refl, refl)
-lasting s (SheetReading bytes) = tt
+lasting s (SheetWriting form out) = (refl, refl)
+lasting s (SheetReading form bytes) = tt
+lasting s (Converting to source out) = (refl, refl)
 
-pub edition-kept : (s : Controller) (op : Op) → ((bytes : List ℕ) → ¬ (op ≡ SheetReading bytes)) → next s op .edition ≡ s .edition
+pub edition-kept : (s : Controller) (op : Op) → ((form : Form) (bytes : List ℕ) → ¬ (op ≡ SheetReading form bytes)) → next s op .edition ≡ s .edition
 unfolding outcome
 edition-kept s (Write r b) h = lasting s (Write r b) .0
 edition-kept s (Read r) h = lasting s (Read r) .0
@@ -136,10 +139,11 @@ edition-kept s (Waits n) h = when-both (λ (t : Controller). t .edition ≡ s .e
 edition-kept s Grant h = lasting s Grant .0
 edition-kept s (Run m d r limit eop) h = lasting s (Run m d r limit eop) .0
 edition-kept s (Round m d r k) h = lasting s (Round m d r k) .0
-edition-kept s (SheetWriting out) h = lasting s (SheetWriting out) .0
-edition-kept s (SheetReading bytes) h = absurd (h bytes refl)
+edition-kept s (SheetWriting form out) h = lasting s (SheetWriting form out) .0
+edition-kept s (SheetReading form bytes) h = absurd (h form bytes refl)
+edition-kept s (Converting to source out) h = lasting s (Converting to source out) .0
 
-pub waits-kept : (s : Controller) (op : Op) → ((n : ℕ) → ¬ (op ≡ Waits n)) → ((bytes : List ℕ) → ¬ (op ≡ SheetReading bytes)) → next s op .waits ≡ s .waits
+pub waits-kept : (s : Controller) (op : Op) → ((n : ℕ) → ¬ (op ≡ Waits n)) → ((form : Form) (bytes : List ℕ) → ¬ (op ≡ SheetReading form bytes)) → next s op .waits ≡ s .waits
 waits-kept s (Write r b) g h = lasting s (Write r b) .1
 waits-kept s (Read r) g h = lasting s (Read r) .1
 waits-kept s (Pins p) g h = lasting s (Pins p) .1
@@ -148,5 +152,6 @@ waits-kept s (Waits n) g h = absurd (g n refl)
 waits-kept s Grant g h = lasting s Grant .1
 waits-kept s (Run m d r limit eop) g h = lasting s (Run m d r limit eop) .1
 waits-kept s (Round m d r k) g h = lasting s (Round m d r k) .1
-waits-kept s (SheetWriting out) g h = lasting s (SheetWriting out) .1
-waits-kept s (SheetReading bytes) g h = absurd (h bytes refl)
+waits-kept s (SheetWriting form out) g h = lasting s (SheetWriting form out) .1
+waits-kept s (SheetReading form bytes) g h = absurd (h form bytes refl)
+waits-kept s (Converting to source out) g h = lasting s (Converting to source out) .1

@@ -8,3 +8,7 @@ pub mod Most
 pub mod SlowRunLaws
 pub mod SlowRoundLaws
 pub mod Waits
+pub mod ConvertTripLaws
+pub mod OtherFormLaws
+pub mod ChangedLaws
+pub mod Forms

@@ -22,9 +22,11 @@ use Rattle.am9517_service.specs.Answers.{ranOf}
 use Rattle.am9517_service.specs.RoundAnswers.{roundedOf}
 use Rattle.am9517_sheet.specs.declared.SheetAnswer.{SheetAnswer}
 use Rattle.am9517_sheet.specs.declared.SheetAnswer.the-variants as sheet
-use Rattle.am9517_sheet.specs.declared.forms.Form.the-variants.{One}
+use Rattle.am9517_sheet.specs.declared.forms.Form.{Form}
+use Rattle.am9517_sheet.specs.declared.forms.Form.the-variants.{One, Two}
 use Rattle.am9517_sheet.specs.Sheet.{stored, sheetWriteOf, sheetReadOf}
-use Rattle.demands.specs.Operations.{Op, Write, Read, Pins, Reset, Waits, Grant, Run, Round, SheetWriting, SheetReading, Scene, scene, after, next}
+use Rattle.am9517_sheet.specs.Convert.{convertOf}
+use Rattle.demands.specs.Operations.{Op, Write, Read, Pins, Reset, Waits, Grant, Run, Round, SheetWriting, SheetReading, Converting, Scene, scene, after, next}
 
 -- the state as an Am9517A's, and as an Intel chip's
 abbrev pub ours : Controller → Controller
@@ -49,8 +51,9 @@ reply s (Waits n) = Told (waitsOf s n .answer)
 reply s Grant = Told (grantOf s .answer)
 reply s (Run m d r limit eop) = let g = ranOf s m d r limit eop .ran in RunTold (g .answer) (g .counts)
 reply s (Round m d r k) = let g = roundedOf s m d r k .rounded in RoundTold (g .answer) (g .services) (g .totals)
-reply s (SheetWriting out) = SheetTold (sheetWriteOf One s out .answer)
-reply s (SheetReading bytes) = SheetTold (sheetReadOf One s bytes .answer)
+reply s (SheetWriting form out) = SheetTold (sheetWriteOf form s out .answer)
+reply s (SheetReading form bytes) = SheetTold (sheetReadOf form s bytes .answer)
+reply s (Converting to source out) = SheetTold (convertOf to source out .answer)
 
 -- the transfer of this call that meets external EOP is made
 abbrev pub MeetsEop : Controller → List ℕ → List ℕ → List ℕ → ℕ → ℕ → Type 0
@@ -66,8 +69,9 @@ Shared s (Waits n) = Unit {0}
 Shared s Grant = Unit {0}
 Shared s (Run m d r limit eop) = ¬ MeetsEop (ours s) m d r limit eop
 Shared s (Round m d r k) = Unit {0}
-Shared s (SheetWriting out) = ⊥
-Shared s (SheetReading bytes) = Unit {0}
+Shared s (SheetWriting form out) = ⊥
+Shared s (SheetReading form bytes) = Unit {0}
+Shared s (Converting to source out) = Unit {0}
 
 -- what an operation leaves, its state taken as an Intel chip's
 abbrev pub asIntel : Scene → Scene
@@ -85,8 +89,9 @@ withTc n x = scene (put (x .controller) Tc (withBit (x .controller .tc) n true))
 
 pub record EditionsDiffer : Type 0 where
   pub shared : (s : Controller) (op : Op) → Shared s op → SameInBoth s op
-  -- "chosen when a state is made and kept in it through reset": nothing changes it but the reading of a sheet, which gives 0 (Sheets `readEdition`).
-  pub kept : (s : Controller) (op : Op) → ((bytes : List ℕ) → ¬ (op ≡ SheetReading bytes)) → next s op .edition ≡ s .edition
+  -- "chosen when a state is made and kept in it through reset": nothing changes it but the reading of a sheet, which gives the sheet's own, 0 in form 1
+  -- (Sheets `readEdition`).
+  pub kept : (s : Controller) (op : Op) → ((form : Form) (bytes : List ℕ) → ¬ (op ≡ SheetReading form bytes)) → next s op .edition ≡ s .edition
   -- "There, a write of register E clears all four mask bits", whatever the byte, of an idle state in its ranges; ours refuses it.
   pub registerE : (s : Controller) (b : ℕ) → valid (intel s) ≡ true → s .«in_service» ≡ 0
       → (writeOf (intel s) 0xE b ≡ record { controller = put (intel s) Mask 0; answer = Done })
@@ -96,6 +101,9 @@ pub record EditionsDiffer : Type 0 where
   pub metEop : (s : Controller) (m d r : List ℕ) (limit eop : ℕ) → MeetsEop (ours s) m d r limit eop
       → (reply (intel s) (Run m d r limit eop) ≡ reply (ours s) (Run m d r limit eop))
       × (after (intel s) (Run m d r limit eop) ≡ withTc (counting s) (asIntel (after (ours s) (Run m d r limit eop))))
-  -- "Form 1 has no place for the edition: writing such a state is refusal 15", where ours, without wait states, is written.
+  -- "Form 1 has no place for the edition: writing such a state is refusal 15", where ours, without wait states, is written;
   pub sheets : (s : Controller) (out : List ℕ) → valid (intel s) ≡ true → s .waits ≡ 0 → 56 ≤ length out
       → (sheetWriteOf One (intel s) out ≡ stored (sheet.Refused 15) out) × (sheetWriteOf One (ours s) out .answer ≡ sheet.Done)
+  -- in form 2 both are.
+  pub sheets2 : (s : Controller) (out : List ℕ) → valid (intel s) ≡ true → 58 ≤ length out
+      → (sheetWriteOf Two (intel s) out .answer ≡ sheet.Done) × (sheetWriteOf Two (ours s) out .answer ≡ sheet.Done)

@@ -1,5 +1,6 @@
--- What document 02's requests say, as statements over the definitions: Copies, A1; Editions, A2; Waits and Most, A3.
+-- What document 02's requests say, as statements over the definitions: Copies, A1; Editions, A2; Waits and Most, A3; Forms, A5.
 pub mod Copies
 pub mod Editions
 pub mod Waits
 pub mod Most
+pub mod Forms

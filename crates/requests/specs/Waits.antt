@@ -16,6 +16,7 @@ use Rattle.am9517_service.specs.Counts.{counts}
 use Rattle.am9517_service.specs.World.{memoryToMemory}
 use Rattle.am9517_service.specs.Answers.{Given, given, ranOf}
 use Rattle.am9517_service.specs.RoundAnswers.{RoundGiven, roundGiven, roundedOf}
+use Rattle.am9517_sheet.specs.declared.forms.Form.{Form}
 use Rattle.demands.specs.Operations.{Op, Waits, SheetReading, next}
 
 -- the state with so many wait states
@@ -49,8 +50,9 @@ pub record SlowCards : Type 0 where
   pub fresh : (edition : ℕ) → fresh edition .waits ≡ 0
   -- "set by its own call when idle": an idle state in its ranges has them from then on, and nothing else of it changes,
   pub set : (s : Controller) (n : ℕ) → valid s ≡ true → s .«in_service» ≡ 0 → waitsOf s n ≡ record { controller = waiting n s; answer = Done }
-  -- "and unchanged by reset", and by all else but the reading of a sheet, which gives 0 (Sheets `readWaits`).
-  pub kept : (s : Controller) (op : Op) → ((n : ℕ) → ¬ (op ≡ Waits n)) → ((bytes : List ℕ) → ¬ (op ≡ SheetReading bytes)) → next s op .waits ≡ s .waits
+  -- "and unchanged by reset", and by all else but the reading of a sheet, which gives the sheet's own, 0 in form 1 (Sheets `readWaits`).
+  pub kept : (s : Controller) (op : Op) → ((n : ℕ) → ¬ (op ≡ Waits n)) → ((form : Form) (bytes : List ℕ) → ¬ (op ≡ SheetReading form bytes))
+      → next s op .waits ≡ s .waits
   -- "The counts of a run and a round change with it": of a run the states, by so many for each transfer, and nothing else of what it says and leaves;
   pub run : (s : Controller) (m d r : List ℕ) (limit eop : ℕ) → ranOf s m d r limit eop ≡ ranSlower (s .waits) (more s) (ranOf (waiting 0 s) m d r limit eop)
   -- of a round the states alone, too: by how much, its runs say (Rounds `IsCalls`, totals).

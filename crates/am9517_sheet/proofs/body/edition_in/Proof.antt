@@ -1,17 +1,7 @@
-use Prim.Native.Nat.{ℕ}
-use mathlib.Core.Path.{_≡_, refl}
-use mathlib.Core.List.{List}
-use Rattle.am9517.specs.Fields.{Edition}
-use Rattle.am9517_sheet.specs.declared.forms.Form.{Form}
-use Rattle.am9517_sheet.specs.declared.forms.Form.the-variants.{One}
-use Rattle.am9517_sheet.specs.Form.{front}
-use Rattle.am9517_sheet.specs.Body.{fieldIn}
+use borrow.Author.Needs.{needs}
 use Rattle.am9517_sheet.proofs.body.edition_in.Statement.{statement}
 use Rattle.am9517_sheet.proofs.body.edition_in.Tie as tie
 
--- the one form there is
-is : (form : Form) (b : List ℕ) → 0 ≡ fieldIn (front form) 0 b Edition 0
-is One b = refl
-
 pub edition-in-spec : {M : Type 1} → statement M
-edition-in-spec = tie.close (tie.spec (λ c. is (c .args .form) _))
+edition-in-spec = tie.close (tie.spec (search needs) (search needs) (search needs) (λ c. rw (c .enum-told .given .1))
+    (λ c. rw (c .before .enum-told2 .given .1)))

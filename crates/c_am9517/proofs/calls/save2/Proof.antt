@@ -1,0 +1,11 @@
+use mathlib.Core.Path.{ap}
+use Rattle.c_am9517.specs.Host.{saveOf}
+use borrow.Author.Needs.{needs}
+use Rattle.c_am9517.proofs.calls.save2.Statement.{statement}
+use Rattle.c_am9517.proofs.calls.save2.Tie as tie
+
+returns : tie.Need-returns
+returns c = rw (c .sheet-number .ensures) (ap saveOf (c .before .before .before .write .ensures .0))
+
+pub save2-spec : {M : Type 1} → statement M
+save2-spec = tie.close (tie.spec (search needs) (search needs) (search needs) returns)
