@@ -136,12 +136,29 @@ pub enum Fault {
     WaitsLineLate,
     StatesCutTo32,
     StatesStayAt32,
+    TwoSaysDistance48,
+    TwoSums48,
+    TwoHasWaitsFirst,
+    TwoReadFrom56,
+    TwoEditionUnchecked,
+    TwoHasNoPlace,
+    OneReadsTwo,
+    LoadTwoDropsEdition,
+    LoadTwoDropsWaits,
+    BackDropsEdition,
+    BackDropsWaits,
+    BackFifteenFirst,
+    TargetNineLast,
+    ConvertsAnyRange,
+    ConvertsToFront,
+    ConvertsOneState,
+    ConvertsAndLoads,
 }
 
 use Fault::*;
 
 /// Each fault with its name and what it does.
-pub const ALL: [(Fault, &str, &str); 130] = [
+pub const ALL: [(Fault, &str, &str); 147] = [
     (StopsEarly, "stops-early", "TC when the count reads 0, one byte early"),
     (S1OnCarryOnly, "s1-on-carry-only", "S1 only on a carry, none in a new service"),
     (AnyReadClearsTc, "any-read-clears-tc", "TC bits cleared by any register read"),
@@ -272,6 +289,27 @@ pub const ALL: [(Fault, &str, &str); 130] = [
     (WaitsLineLate, "waits-line-late", "the command waits over 255 is refused by 1 and 3 first"),
     (StatesCutTo32, "states-cut-to-32", "a round's states are cut to 32 bits"),
     (StatesStayAt32, "states-stay-at-32", "a round's states stop at the most of 32 bits"),
+    (TwoSaysDistance48, "two-says-distance-48", "form 2's trailer has distance 48"),
+    (TwoSums48, "two-sums-48", "form 2's sum leaves out edition and waits"),
+    (
+        TwoHasWaitsFirst,
+        "two-has-waits-first",
+        "form 2 is written with the waits before the edition",
+    ),
+    (TwoReadFrom56, "two-read-from-56", "form 2 is read from 56 bytes on, zeros before them"),
+    (TwoEditionUnchecked, "two-edition-unchecked", "form 2 is read with any edition"),
+    (TwoHasNoPlace, "two-has-no-place", "edition and waits refuse form 2 by 15, too"),
+    (OneReadsTwo, "one-reads-two", "the command load reads a sheet of form 2"),
+    (LoadTwoDropsEdition, "load2-drops-edition", "the command load2 makes an Am9517A"),
+    (LoadTwoDropsWaits, "load2-drops-waits", "the command load2 makes the waits 0"),
+    (BackDropsEdition, "back-drops-edition", "an Intel sheet is converted back"),
+    (BackDropsWaits, "back-drops-waits", "a sheet with waits is converted back"),
+    (BackFifteenFirst, "back-fifteen-first", "converting back is refused by 15 before 14"),
+    (TargetNineLast, "target-nine-last", "a short target is refused by 9 after 10 to 15"),
+    (ConvertsAnyRange, "converts-any-range", "converting doesn't ask ranges"),
+    (ConvertsToFront, "converts-to-front", "the converted sheet is at the target's front"),
+    (ConvertsOneState, "converts-one-state", "converting is refused by 1 in a broken state"),
+    (ConvertsAndLoads, "converts-and-loads", "the sheet that is converted is loaded, too"),
 ];
 
 thread_local! {

@@ -1,5 +1,5 @@
 //! A second, independent model of one Am9517A or Intel 8237A, made from documents 01 and 02
-//! (requests A1 to A3) and the data sheets alone.
+//! (requests A1 to A3 and A5) and the data sheets alone.
 //!
 //! The rules are in modules by subject: [`state`], [`registers`], [`serving`], [`run`], [`round`]
 //! and [`sheet`]. [`protocol`] is the line protocol over them. [`faults`] is a set of deliberate

@@ -3,6 +3,7 @@
 use crate::faults::{self, Fault};
 use crate::round::{RoundStop, RoundTally};
 use crate::run::{Stop, Tally};
+use crate::sheet::{convert, Form};
 use crate::state::{Controller, Refusal, AM9517A, BODY_LENGTH, FULL_LENGTH, INTEL};
 use std::collections::VecDeque;
 use std::io::{self, BufRead, Write};
@@ -94,8 +95,12 @@ impl Console {
             [b"out", address, length] => peek(&self.room, number(address)?, number(length)?),
             [b"run", limit, eop] => self.run(number32(limit)?, number32(eop)?),
             [b"round", k] => self.round(number32(k)?),
-            [b"sheet", length] => self.sheet(number(length)?),
-            [b"load", hex] => self.load(&bytes(hex)?),
+            [b"sheet", length] => self.sheet(Form::One, number(length)?),
+            [b"sheet2", length] => self.sheet(Form::Two, number(length)?),
+            [b"load", hex] => self.load(Form::One, &bytes(hex)?),
+            [b"load2", hex] => self.load(Form::Two, &bytes(hex)?),
+            [b"forward", hex, length] => self.forward(&bytes(hex)?, number(length)?),
+            [b"back", hex, length] => self.back(&bytes(hex)?, number(length)?),
             _ => Err(Fail::Error),
         }
     }
@@ -257,27 +262,56 @@ impl Console {
         self.position += tally.written;
     }
 
-    fn sheet(&mut self, length: u64) -> Answer {
-        let mut slice = vec![SLICE_BYTE; at_most(length, MOST_BYTES)?];
-        self.controller.write_sheet(&mut slice)?;
+    fn sheet(&mut self, form: Form, length: u64) -> Answer {
+        let mut slice = new_slice(length)?;
+        self.controller.write_sheet(form, &mut slice)?;
         Ok(format!("bytes {}", to_hex(&slice)))
     }
 
-    fn load(&mut self, given: &[u8]) -> Answer {
+    fn load(&mut self, form: Form, given: &[u8]) -> Answer {
         let now = self.controller;
         match faults::chosen() {
             Some(Fault::IntelLoadRefused) if now.is_intel() => return Err(Refusal::NoPlace.into()),
             Some(Fault::WaitsLoadRefused) if now.waits != 0 => return Err(Refusal::NoPlace.into()),
             _ => {}
         }
-        let mut next = Controller::read_sheet(given)?;
-        match faults::chosen() {
-            Some(Fault::LoadKeepsEdition) => next.edition = now.edition,
-            Some(Fault::LoadKeepsWaits) => next.waits = now.waits,
+        let mut next = Controller::read_sheet(form, given)?;
+        match (faults::chosen(), form) {
+            (Some(Fault::LoadKeepsEdition), Form::One) => next.edition = now.edition,
+            (Some(Fault::LoadKeepsWaits), Form::One) => next.waits = now.waits,
+            (Some(Fault::LoadTwoDropsEdition), Form::Two) => next.edition = AM9517A,
+            (Some(Fault::LoadTwoDropsWaits), Form::Two) => next.waits = 0,
             _ => {}
         }
         self.take(next)
     }
+
+    fn forward(&mut self, source: &[u8], length: u64) -> Answer {
+        self.convert(Form::One, source, Form::Two, length)
+    }
+
+    fn back(&mut self, source: &[u8], length: u64) -> Answer {
+        self.convert(Form::Two, source, Form::One, length)
+    }
+
+    /// "the sheet at the end of HEX is converted into a slice of N bytes 0xEE"; the state is neither
+    /// asked nor changed.
+    fn convert(&mut self, from: Form, source: &[u8], to: Form, length: u64) -> Answer {
+        let mut slice = new_slice(length)?;
+        if faults::on(Fault::ConvertsOneState) {
+            self.controller.refuse_broken()?;
+        }
+        convert(from, source, to, &mut slice)?;
+        if faults::on(Fault::ConvertsAndLoads) {
+            self.controller = Controller::read_sheet(from, source)?;
+        }
+        Ok(format!("bytes {}", to_hex(&slice)))
+    }
+}
+
+/// "a slice of N bytes 0xEE (N at most 70,000)"
+fn new_slice(length: u64) -> Result<Vec<u8>, Fail> {
+    Ok(vec![SLICE_BYTE; at_most(length, MOST_BYTES)?])
 }
 
 fn ok() -> Answer {

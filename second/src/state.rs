@@ -37,7 +37,8 @@ pub enum Refusal {
     MemoryLength = 7,
     /// "run with no service open"
     NoService = 8,
-    /// "slice under 56 bytes for a sheet"
+    /// "slice under 56 bytes for a sheet"; document 02, A5: 58 in form 2, and "source or target too
+    /// short" in converting.
     ShortSlice = 9,
     /// "10 end mark"
     EndMark = 10,
@@ -50,7 +51,8 @@ pub enum Refusal {
     /// "14 range"
     Range = 14,
     /// Document 02, A2: "Form 1 has no place for the edition: writing such a state is refusal 15";
-    /// A3: "A state with waits can't go into form 1: refusal 15."
+    /// A3: "A state with waits can't go into form 1: refusal 15."; A5: "Converting back is
+    /// allowed exactly when both are 0, else refusal 15".
     NoPlace = 15,
 }
 

@@ -156,20 +156,6 @@ impl Writer {
         self.show_full();
     }
 
-    pub fn store_and_read(&mut self) {
-        let length = self.random.pick(&[54, 55, 55, 56, 56, 57, 100]);
-        self.say(&[Name("sheet"), Number(length)]);
-        if self.random.chance(50) {
-            self.load_and_show();
-        }
-    }
-
-    /// A sheet read, good or bad, and what became of edition and waits.
-    fn load_and_show(&mut self) {
-        self.load();
-        self.show_full();
-    }
-
     /// An edition there is none of, all else in order or not, and how operations take it.
     pub fn break_edition(&mut self) {
         let mut state = self.controller();

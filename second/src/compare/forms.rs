@@ -1,5 +1,6 @@
 //! Lines whose form is the point: blank, faulty, very long, or left open by the protocol.
 
+use super::sheets::{converts, reads};
 use super::values;
 use super::writer::{Hex, Name, Number, Raw, Word, Writer};
 use crate::protocol::to_hex;
@@ -33,7 +34,7 @@ impl Writer {
         let small = Number(self.random.below(16));
         let byte = Number(u64::from(self.random.byte()));
         let bytes = Hex(self.random.bytes(2));
-        match self.random.below(22) {
+        match self.random.below(26) {
             0 => vec![Name("write"), small, byte],
             1 => vec![Name("read"), small],
             2 => vec![Name("pins"), small],
@@ -54,6 +55,10 @@ impl Writer {
             17 => vec![Name("full")],
             18 => vec![Name("fresh"), Number(self.random.below(2))],
             19..=20 => vec![Name("waits"), byte],
+            21 => vec![Name("sheet2"), small],
+            22 => vec![Name("load2"), bytes],
+            23 => vec![Name("forward"), bytes, small],
+            24 => vec![Name("back"), bytes, small],
             _ => vec![Name("state"), bytes],
         }
     }
@@ -71,7 +76,10 @@ impl Writer {
             1 => name[1..].to_string(),
             2 => format!("{name}s"),
             3 => format!("{}{}", name[..1].to_uppercase(), &name[1..]),
-            _ => self.random.pick(&["nop", "0", "-", "state,", "réset", "write:"]).to_string(),
+            _ => {
+                let names = ["nop", "0", "-", "state,", "réset", "write:", "sheet1", "load3"];
+                self.random.pick(&names).to_string()
+            }
         }
     }
 
@@ -140,7 +148,7 @@ impl Writer {
             3 => self.say_padded("", b"a", ""),
             4 => self.long_bytes("feed ", 69_990, 70_003),
             5 => self.long_bytes("poke 0 ", 65_530, 65_540),
-            6 => self.long_bytes("load ", 99_000, 99_997),
+            6 => self.long_sheet(),
             _ => self.say_padded("load ", b"0", "1"),
         }
     }
@@ -155,11 +163,20 @@ impl Writer {
 
     fn long_bytes(&mut self, command: &str, fewest: u64, most: u64) {
         let length = self.random.between(fewest, most) as usize;
-        let mut bytes = self.random.bytes(length);
-        if command == "load " {
-            let state = values::state(&mut self.random, false);
-            let _ = state.write_sheet(&mut bytes);
-        }
+        let bytes = self.random.bytes(length);
         self.say_plainly(&format!("{command}{}", to_hex(&bytes)));
+    }
+
+    /// A sheet behind many bytes, read or converted.
+    fn long_sheet(&mut self) {
+        let length = self.random.between(99_000, 99_990) as usize;
+        let form = self.some_form();
+        let state = values::state(&mut self.random, false);
+        let bytes = [self.random.bytes(length - form.length()), form.sheet(&state.full())].concat();
+        let hex = to_hex(&bytes);
+        if self.random.chance(50) {
+            return self.say_plainly(&format!("{} {hex}", reads(form)));
+        }
+        self.say_plainly(&format!("{} {hex} 60", converts(form)));
     }
 }

@@ -10,6 +10,7 @@ pub mod program;
 pub mod random;
 pub mod report;
 pub mod scenes;
+pub mod sheets;
 pub mod shrink;
 pub mod sides;
 pub mod values;

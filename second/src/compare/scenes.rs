@@ -73,6 +73,7 @@ impl Writer {
             0..=3 => self.any_operation(),
             4 => self.fresh(),
             5 => self.load(),
+            6 => self.convert(),
             _ => self.set_state(),
         }
     }
@@ -80,7 +81,7 @@ impl Writer {
     fn step_in_service(&mut self) {
         // A cascade service only waits for its line to go.
         let run = if self.stays_in_cascade() { 15 } else { 55 };
-        match self.random.weighted(&[run, 18, 10, 4, 3, 3, 8, 2, 3, 1, 2, 2, 3, 3]) {
+        match self.random.weighted(&[run, 18, 10, 4, 3, 3, 8, 2, 3, 1, 2, 2, 3, 3, 6]) {
             0 => self.run(),
             1 => self.pins(),
             2 => self.device(),
@@ -94,7 +95,8 @@ impl Writer {
             10 => self.lend_memory(),
             11 => self.clear_mask(),
             12 => self.scene_of_editions(),
-            _ => self.scene_of_waits(),
+            13 => self.scene_of_waits(),
+            _ => self.scene_of_sheets(),
         }
     }
 
@@ -106,7 +108,7 @@ impl Writer {
 
     fn step_idle(&mut self) {
         let scenes = [22, 13, 18, 16];
-        let others = [3, 6, 15, 8, 10, 6, 10, 2, 2, 4, 3, 5, 2, 6, 1, 14, 8, 8];
+        let others = [3, 6, 15, 8, 10, 6, 10, 2, 2, 4, 3, 5, 2, 6, 1, 14, 8, 8, 20];
         match self.random.weighted(&[&scenes[..], &others[..]].concat()) {
             0 => self.scene_of_one_service(),
             1 => self.scene_of_memory_to_memory(),
@@ -129,7 +131,8 @@ impl Writer {
             18 => self.read_everything(),
             19 => self.scene_of_editions(),
             20 => self.scene_of_eop(),
-            _ => self.scene_of_waits(),
+            21 => self.scene_of_waits(),
+            _ => self.scene_of_sheets(),
         }
     }
 
@@ -147,7 +150,7 @@ impl Writer {
 
     /// Any operation, whatever the state: most are refused.
     pub fn any_operation(&mut self) {
-        match self.random.below(11) {
+        match self.random.below(12) {
             0 => self.write_some_register(),
             1 => self.read_some_register(),
             2 => self.pins(),
@@ -158,6 +161,7 @@ impl Writer {
             7 => self.sheet(),
             8 => self.master_clear(),
             9 => self.set_waits(),
+            10 => self.convert(),
             _ => self.fresh(),
         }
     }
@@ -517,7 +521,7 @@ impl Writer {
     }
 
     /// A state made anew, in an edition and with waits of this script's.
-    fn some_state(&mut self) -> Controller {
+    pub fn some_state(&mut self) -> Controller {
         let heavy = self.heavy();
         let state = values::state(&mut self.random, heavy);
         Controller { edition: self.some_edition(), waits: self.some_waits(), ..state }
@@ -538,21 +542,6 @@ impl Writer {
         if self.random.chance(25) {
             self.sheet();
         }
-    }
-
-    fn sheet(&mut self) {
-        let length = match self.random.below(30) {
-            0 => self.random.pick(&[69_999, 70_000, 70_001, 65_536]),
-            _ => self.random.pick(&[0, 1, 48, 54, 55, 55, 56, 56, 56, 57, 64, 112, 200]),
-        };
-        self.say(&[Name("sheet"), Number(length)]);
-    }
-
-    pub fn load(&mut self) {
-        let heavy = self.heavy();
-        let now = self.controller();
-        let sheet = values::sheet(&mut self.random, &now, heavy);
-        self.say(&[Name("load"), Hex(sheet)]);
     }
 
     fn lend_memory(&mut self) {

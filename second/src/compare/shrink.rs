@@ -1,5 +1,6 @@
 //! Find a short script that still differs: drop lines, then make words smaller.
 
+use super::sheets::form_read_by;
 use super::sides::Text;
 use crate::protocol::to_hex;
 use std::time::Instant;
@@ -82,19 +83,20 @@ fn smaller_lines(line: &[u8]) -> Vec<Text> {
 }
 
 fn smaller_words(command: &str, index: usize, word: &str) -> Vec<String> {
+    let sheet = form_read_by(command);
     let is_hex = match command {
-        "state" | "full" | "feed" | "load" => index == 1,
+        "state" | "full" | "feed" => index == 1,
         "poke" => index == 2,
-        _ => false,
+        _ => sheet.is_some() && index == 1,
     };
     if !is_hex {
         return smaller_numbers(word);
     }
-    match bytes_of(word) {
-        Some(bytes) if matches!(command, "state" | "full") => with_a_zero(&bytes),
-        Some(bytes) if command == "load" => without_front(&bytes, word),
-        Some(bytes) => fewer_bytes(&bytes),
-        None => Vec::new(),
+    match (bytes_of(word), sheet) {
+        (Some(bytes), Some(form)) => without_front(&bytes, word, form.length()),
+        (Some(bytes), None) if matches!(command, "state" | "full") => with_a_zero(&bytes),
+        (Some(bytes), None) => fewer_bytes(&bytes),
+        (None, _) => Vec::new(),
     }
 }
 
@@ -133,10 +135,11 @@ fn with_a_zero(bytes: &[u8]) -> Vec<String> {
     .collect()
 }
 
-fn without_front(bytes: &[u8], word: &str) -> Vec<String> {
+/// A sheet alone, of `length` bytes, and in its plainest spelling.
+fn without_front(bytes: &[u8], word: &str, length: usize) -> Vec<String> {
     let mut words = Vec::new();
-    if bytes.len() > 56 {
-        words.push(to_hex(&bytes[bytes.len() - 56..]));
+    if bytes.len() > length {
+        words.push(to_hex(&bytes[bytes.len() - length..]));
     }
     if word != to_hex(bytes) {
         words.push(to_hex(bytes));

@@ -1,9 +1,8 @@
-//! Values near the edges: addresses, counts, modes, commands, whole states, broken states, sheets.
+//! Values near the edges: addresses, counts, modes, commands, whole states, broken states.
 
 use super::editions::BROKEN_EDITIONS;
 use super::random::Random;
-use crate::sheet::SHEET_LENGTH;
-use crate::state::{Controller, BODY_LENGTH};
+use crate::state::Controller;
 
 const ADDRESSES: [u16; 18] = [
     0x0000, 0x0001, 0x0002, 0x0003, 0x00FD, 0x00FE, 0x00FF, 0x0100, 0x0101, 0x01FF, 0x0200, 0x7FFF,
@@ -165,55 +164,5 @@ pub fn mode_to_write(random: &mut Random) -> u8 {
         0 => random.byte(),
         1..=2 => mode(random) | 0x0C | channel,
         _ => mode(random) | channel,
-    }
-}
-
-/// Bytes for `load`: a sheet, most often with one fault or several.
-pub fn sheet(random: &mut Random, now: &Controller, heavy: bool) -> Vec<u8> {
-    let mut state = if random.chance(40) { *now } else { state(random, heavy) };
-    if random.chance(25) {
-        break_range(random, &mut state);
-    }
-    let mut sheet = state.body().to_vec();
-    sheet.extend([0x01, 0x00, 0x30, 0x00, 0, 0, 0x44, 0x4D]);
-    let sum: u16 = sheet[..BODY_LENGTH].iter().map(|&byte| u16::from(byte)).sum();
-    sheet[52..54].copy_from_slice(&sum.to_le_bytes());
-    let faults = random.weighted(&[45, 35, 13, 7]);
-    for _ in 0..faults {
-        spoil(random, &mut sheet);
-    }
-    resize(random, sheet)
-}
-
-fn spoil(random: &mut Random, sheet: &mut [u8]) {
-    let sum = u16::from_le_bytes([sheet[52], sheet[53]]);
-    let near = random.pick(&[1, 0xFFFF, 0x100, 0xFF00, 2]);
-    match random.below(9) {
-        0 => sheet[54] = random.pick(&[0x4D, 0x45, 0x43, 0]),
-        1 => sheet[55] = random.pick(&[0x44, 0x4C, 0x4E, 0]),
-        2 => sheet[48] = random.pick(&[0, 2, 0x81]),
-        3 => sheet[49] = random.pick(&[1, 0x80]),
-        4 => sheet[50] = random.pick(&[0x2F, 0x31, 0x38, 0]),
-        5 => sheet[51] = random.pick(&[1, 0x30]),
-        6 => sheet[52..54].copy_from_slice(&sum.wrapping_add(near).to_le_bytes()),
-        7 => sheet.swap(52, 53),
-        _ => sheet[random.below(48) as usize] ^= 1 << random.below(8),
-    }
-}
-
-/// Bytes in front of the sheet, or too few of them.
-fn resize(random: &mut Random, mut sheet: Vec<u8>) -> Vec<u8> {
-    match random.below(20) {
-        0 => sheet.split_off(1),
-        1 => sheet.split_off(random.below(SHEET_LENGTH as u64) as usize),
-        2 => sheet[..SHEET_LENGTH - 1].to_vec(),
-        3 => Vec::new(),
-        4..=6 => {
-            let length = random.pick(&[1, 2, 8, 56, 200]);
-            let mut longer = random.bytes(length);
-            longer.extend(sheet);
-            longer
-        }
-        _ => sheet,
     }
 }

@@ -151,16 +151,16 @@ fn rounds_of_4096_and_4097() {
 #[test]
 fn slices_of_55_and_56() {
     let now = Controller::fresh();
-    assert_eq!(now.write_sheet(&mut [0; 55]), Err(Refusal::ShortSlice));
+    assert_eq!(now.write_sheet(Form::One, &mut [0; 55]), Err(Refusal::ShortSlice));
     let mut slice = [0; 56];
-    now.write_sheet(&mut slice).unwrap();
+    now.write_sheet(Form::One, &mut slice).unwrap();
     let mut fresh = [0; 56];
     fresh[39] = 0x0F;
     fresh[43] = 3;
     fresh[48..].copy_from_slice(&[1, 0, 0x30, 0, 0x12, 0, 0x44, 0x4D]);
     assert_eq!(slice, fresh);
-    assert_eq!(Controller::read_sheet(&slice), Ok(now));
-    assert_eq!(Controller::read_sheet(&slice[1..]), Err(Refusal::ShortSlice));
+    assert_eq!(Controller::read_sheet(Form::One, &slice), Ok(now));
+    assert_eq!(Controller::read_sheet(Form::One, &slice[1..]), Err(Refusal::ShortSlice));
 }
 
 #[test]

@@ -214,9 +214,9 @@ fn a_sheet_touches_only_the_last_56_bytes() {
     now.latch_full = 1;
     now.latch = 0xFF;
     let mut slice = [0xEE; 100];
-    now.write_sheet(&mut slice).unwrap();
+    now.write_sheet(Form::One, &mut slice).unwrap();
     assert_eq!(slice[..44], [0xEE; 44]);
     let sum: u32 = slice[44..92].iter().map(|&byte| u32::from(byte)).sum();
     assert_eq!(u32::from(slice[96]) + 256 * u32::from(slice[97]), sum);
-    assert_eq!(Controller::read_sheet(&slice), Ok(now));
+    assert_eq!(Controller::read_sheet(Form::One, &slice), Ok(now));
 }

@@ -411,8 +411,8 @@ fn no_other_edition() {
             assert_eq!(now.run(&mut [], &[], &mut [], 1, 1), Err(Refusal::BrokenState));
             assert_eq!(now.round(&mut memory(), &[], &mut [], 0), Err(Refusal::BrokenState));
             assert_eq!(now.round(&mut [], &[], &mut [], 5_000), Err(Refusal::BrokenState));
-            assert_eq!(now.write_sheet(&mut [0; 55]), Err(Refusal::BrokenState));
-            assert_eq!(now.write_sheet(&mut [0; 56]), Err(Refusal::BrokenState));
+            assert_eq!(now.write_sheet(Form::One, &mut [0; 55]), Err(Refusal::BrokenState));
+            assert_eq!(now.write_sheet(Form::One, &mut [0; 56]), Err(Refusal::BrokenState));
         }
     }
 }
@@ -424,15 +424,18 @@ fn sheets_are_refused_in_order() {
         for length in [0, 55, 56, 57, 200] {
             let mut slice = vec![0xEE; length];
             let wanted = if length < 56 { Refusal::ShortSlice } else { Refusal::NoPlace };
-            assert_eq!(now.write_sheet(&mut slice), Err(wanted));
+            assert_eq!(now.write_sheet(Form::One, &mut slice), Err(wanted));
             let broken = Controller { flip_flop: 2, ..now };
-            assert_eq!(broken.write_sheet(&mut slice), Err(Refusal::BrokenState));
+            assert_eq!(broken.write_sheet(Form::One, &mut slice), Err(Refusal::BrokenState));
             assert_eq!(slice, vec![0xEE; length]);
         }
     }
     assert_eq!(Refusal::NoPlace.number(), 15);
-    assert_eq!(full_of_values(AM9517A).write_sheet(&mut [0; 55]), Err(Refusal::ShortSlice));
-    assert_eq!(full_of_values(AM9517A).write_sheet(&mut [0; 56]), Ok(()));
+    assert_eq!(
+        full_of_values(AM9517A).write_sheet(Form::One, &mut [0; 55]),
+        Err(Refusal::ShortSlice)
+    );
+    assert_eq!(full_of_values(AM9517A).write_sheet(Form::One, &mut [0; 56]), Ok(()));
 }
 
 /// "the sheet's round trip is for Am9517A states"; what is read is one.
@@ -440,8 +443,8 @@ fn sheets_are_refused_in_order() {
 fn a_sheet_read_is_an_am9517a() {
     let now = full_of_values(AM9517A);
     let mut slice = [0; 56];
-    now.write_sheet(&mut slice).unwrap();
-    assert_eq!(Controller::read_sheet(&slice), Ok(now));
+    now.write_sheet(Form::One, &mut slice).unwrap();
+    assert_eq!(Controller::read_sheet(Form::One, &slice), Ok(now));
     // The body's own bytes say nothing of the edition: those of an Intel state are the same.
     assert_eq!(slice[..48], full_of_values(INTEL).body());
 }

@@ -1,11 +1,13 @@
-//! The cases of document 01, its refusals, its list of errors, document 02's requests A1 to A3, and
-//! the line protocol.
+//! The cases of document 01, its refusals, its list of errors, document 02's requests A1 to A3 and
+//! A5, and the line protocol.
 
 mod cases;
 mod channel_zero;
 mod details;
 mod edition_lines;
 mod editions;
+mod form_lines;
+mod form_two;
 mod protocol;
 mod refusals;
 mod trade_errors;
@@ -13,6 +15,7 @@ mod wait_lines;
 mod waits;
 
 use second::run::{Stop, Tally};
+use second::sheet::Form;
 use second::state::Controller;
 
 /// One channel set up by hand, everything else fresh.

@@ -22,7 +22,7 @@ fn refusal_1_goes_before_all_others() {
         assert_eq!(now.grant(), Err(Refusal::BrokenState));
         assert_eq!(now.run(&mut [], &[], &mut [], 1, 0), Err(Refusal::BrokenState));
         assert_eq!(now.round(&mut [], &[], &mut [], 5_000), Err(Refusal::BrokenState));
-        assert_eq!(now.write_sheet(&mut []), Err(Refusal::BrokenState));
+        assert_eq!(now.write_sheet(Form::One, &mut []), Err(Refusal::BrokenState));
     }
 }
 
@@ -150,13 +150,13 @@ fn refusal_8() {
 
 #[test]
 fn refusal_9() {
-    assert_eq!(Controller::fresh().write_sheet(&mut []), Err(Refusal::ShortSlice));
-    assert_eq!(Controller::read_sheet(&[0; 55]), Err(Refusal::ShortSlice));
+    assert_eq!(Controller::fresh().write_sheet(Form::One, &mut []), Err(Refusal::ShortSlice));
+    assert_eq!(Controller::read_sheet(Form::One, &[0; 55]), Err(Refusal::ShortSlice));
 }
 
 fn sheet() -> Vec<u8> {
     let mut slice = vec![0xEE; 60];
-    Controller::fresh().write_sheet(&mut slice).unwrap();
+    Controller::fresh().write_sheet(Form::One, &mut slice).unwrap();
     slice
 }
 
@@ -165,12 +165,12 @@ fn changed(places: &[usize]) -> Result<Controller, Refusal> {
     for place in places {
         slice[4 + place] ^= 0x55;
     }
-    Controller::read_sheet(&slice)
+    Controller::read_sheet(Form::One, &slice)
 }
 
 #[test]
 fn refusals_10_to_13_in_order() {
-    assert_eq!(Controller::read_sheet(&sheet()), Ok(Controller::fresh()));
+    assert_eq!(Controller::read_sheet(Form::One, &sheet()), Ok(Controller::fresh()));
     assert_eq!(changed(&[54, 48, 50, 52, 37]), Err(Refusal::EndMark));
     assert_eq!(changed(&[55]), Err(Refusal::EndMark));
     assert_eq!(changed(&[48, 50, 52, 37]), Err(Refusal::Form));
@@ -187,5 +187,5 @@ fn refusal_14() {
     let mut slice = sheet();
     slice[4 + 37] = 16;
     slice[4 + 52] += 16;
-    assert_eq!(Controller::read_sheet(&slice), Err(Refusal::Range));
+    assert_eq!(Controller::read_sheet(Form::One, &slice), Err(Refusal::Range));
 }

@@ -377,9 +377,12 @@ fn sheets_are_refused_in_order() {
                 for length in [0, 55, 56, 57, 200] {
                     let mut slice = vec![0xEE; length];
                     let wanted = if length < 56 { Refusal::ShortSlice } else { Refusal::NoPlace };
-                    assert_eq!(now.write_sheet(&mut slice), Err(wanted));
+                    assert_eq!(now.write_sheet(Form::One, &mut slice), Err(wanted));
                     let broken = Controller { flip_flop: 2, ..now };
-                    assert_eq!(broken.write_sheet(&mut slice), Err(Refusal::BrokenState));
+                    assert_eq!(
+                        broken.write_sheet(Form::One, &mut slice),
+                        Err(Refusal::BrokenState)
+                    );
                     assert_eq!(slice, vec![0xEE; length]);
                 }
             }
@@ -392,10 +395,10 @@ fn sheets_are_refused_in_order() {
 fn without_waits_the_sheet_is_written() {
     let fast = full_of_values(AM9517A);
     let slow = fast.set_waits(9).unwrap();
-    assert_eq!(slow.write_sheet(&mut [0; 56]), Err(Refusal::NoPlace));
+    assert_eq!(slow.write_sheet(Form::One, &mut [0; 56]), Err(Refusal::NoPlace));
     let mut slice = [0; 56];
-    assert_eq!(slow.set_waits(0).unwrap().write_sheet(&mut slice), Ok(()));
-    assert_eq!(Controller::read_sheet(&slice), Ok(fast));
+    assert_eq!(slow.set_waits(0).unwrap().write_sheet(Form::One, &mut slice), Ok(()));
+    assert_eq!(Controller::read_sheet(Form::One, &slice), Ok(fast));
 }
 
 /// A sheet of form 1 reads as edition 0, waits 0: its bytes say nothing of either.
