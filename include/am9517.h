@@ -36,8 +36,8 @@
  * (am9517_save, am9517_load); form 2 has 58, edition and wait states before the rest (am9517_save2, am9517_load2), and every
  * chip that is in its ranges has one. A sheet is the last bytes of its slice; those before it play no part and stay.
  * am9517_forward and am9517_back write a sheet of one form in the other, with no chip: forward any good one, back exactly those
- * whose edition and waits are 0, else 15. Forward and back gives the same bytes, and so does back and forward. Who reads one
- * form refuses a sheet of the other, by 11 or, in too few bytes, by 9.
+ * whose edition and waits are 0, else 15. Forward and back gives the same bytes, and so does back and forward where back is
+ * allowed. Who reads one form refuses a sheet of the other, by 11 or, in too few bytes, by 9.
  *
  * REFUSALS. Each call but am9517_version, am9517_fresh and the two texts says a refusal number, 0 for none. Where several
  * hold it is the first in the order that stands with the call. A refused call changes no field of the chip and no byte of

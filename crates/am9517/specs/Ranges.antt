@@ -15,7 +15,7 @@ unfoldable pub modesValid : Controller → Bool
 modesValid s =
     modeValid (channel s 0 .mode) and modeValid (channel s 1 .mode) and modeValid (channel s 2 .mode) and modeValid (channel s 3 .mode)
 
--- "37, 38, 39, 42 at most 15; 41, 44, 46 at most 1; 43, 45 at most 3"; and the edition, which has no place there, at most 1: it is one of two
+-- "37, 38, 39, 42 at most 15; 41, 44, 46 at most 1; 43, 45 at most 3"; and the edition, whose place is in form 2, at most 1: it is one of two
 unfoldable pub fieldsValid : Controller → Bool
 fieldsValid s =
     leb (s .tc) 15

@@ -15,11 +15,11 @@ use Rattle.am9517_sheet.specs.declared.forms.Form.{Form}
 use Rattle.am9517_sheet.specs.Bytes.{placed}
 use Rattle.am9517_sheet.specs.Form.{sheetSize}
 use Rattle.am9517_sheet.specs.Body.{exceeds}
-use Rattle.am9517_sheet.specs.Sheet.{sheetOf, sheetRefusalNumber, answerOf, Stored, stored, sheetFaults}
+use Rattle.am9517_sheet.specs.Sheet.{sheetOf, sheetRefusalNumber, Stored, stored, sheetFaults}
 use Rattle.am9517_sheet.specs.Convert.{toldIn, convertGrounds, rewritten}
 use Rattle.words.proofs.ChoiceLaws.{never}
 use Rattle.words.proofs.GroundLaws.{passed, first-else}
-use Rattle.am9517_sheet.proofs.SheetLaws.{put-too}
+use Rattle.am9517_sheet.proofs.SheetLaws.{put-too, put-done, put-refused}
 
 -- neither of two is short
 neither : (a b : Bool) → a || b ≡ false → (a ≡ false) × (b ≡ false)
@@ -102,9 +102,7 @@ module _ (from to : Form) (source : List ℕ) where
   -- what is given: a refusal's number and the target as it was, or the sheet in its other form
   module _ (out : List ℕ) (no : ℕ) (e : refusal (convertGrounds from to source (length out)) ≡ no) where
     pub convert-refused : ¬ (no ≡ 0) → rewritten from to source out ≡ stored (Refused no) out
-    unfolding answerOf when
-    convert-refused h = rw (e, ne-eqb no 0 h)
+    convert-refused h = put-refused _ to (toldIn from source) out no e h
 
     pub convert-done : no ≡ 0 → rewritten from to source out ≡ stored Done (placed out (length out - sheetSize to) (sheetOf to (toldIn from source)))
-    unfolding answerOf when
-    convert-done z = rw (e, z)
+    convert-done z = put-done _ to (toldIn from source) out (e ∙ z)

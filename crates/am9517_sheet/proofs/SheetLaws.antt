@@ -37,6 +37,16 @@ number-said n = go (eqb n 0) refl
 pub put-too : (n : ℕ) (form : Form) (s : Controller) (out : List ℕ) (w : Stored) → w ≡ putUnless n form s out → (w ≡ putUnless n form s out) × (sheetRefusalNumber (w .answer) ≡ n)
 put-too n form s out w e = (e, ap (λ (v : Stored). sheetRefusalNumber (v .answer)) e ∙ number-said n)
 
+-- and what is left: the sheet at the slice's end, or the slice as it was
+module _ (n : ℕ) (form : Form) (s : Controller) (out : List ℕ) where
+  pub put-done : n ≡ 0 → putUnless n form s out ≡ stored Done (placed out (length out - sheetSize form) (sheetOf form s))
+  unfolding answerOf when
+  put-done e = simp e
+
+  pub put-refused : (k : ℕ) → n ≡ k → ¬ (k ≡ 0) → putUnless n form s out ≡ stored (Refused k) out
+  unfolding answerOf when
+  put-refused k e h = simp (e, ne-eqb k 0 h)
+
 pub write-too : (form : Form) (s : Controller) (out : List ℕ) (w : Stored) → w ≡ sheetWriteOf form s out
     → (w ≡ sheetWriteOf form s out) × (sheetRefusalNumber (w .answer) ≡ refusal (sheetWriteGrounds form s (length out)))
 write-too form s out w e = put-too _ form s out w e
@@ -52,8 +62,7 @@ module _ (form : Form) where
   -- an accepted write: what it stores, and when it is one
   pub write-done : (s : Controller) (out : List ℕ) → refusal (sheetWriteGrounds form s (length out)) ≡ 0
       → sheetWriteOf form s out ≡ stored Done (placed out (length out - sheetSize form) (sheetOf form s))
-  unfolding answerOf when
-  write-done s out e = simp e
+  write-done s out e = put-done _ form s out e
 
   module _ (s : Controller) (n : ℕ) where
     pub write-free : valid s ≡ true → sheetSize form ≤ n → exceeds form s ≡ false → refusal (sheetWriteGrounds form s n) ≡ 0
@@ -73,11 +82,15 @@ module _ (form : Form) where
     write-within e = passed _ _ _ (omega arith) (passed _ _ _ (omega arith) (passed _ _ _ (omega arith) e .next) .next) .test
 
   module _ (bytes : List ℕ) where
-    -- an accepted read: what it tells, and its room
+    -- a read: what it tells, or the number that refuses it
     pub read-done : (t : Controller) → refusal (sheetReadGrounds form bytes) ≡ 0
         → sheetReadOf form t bytes ≡ record { controller = stateOf form (sheetIn form bytes); answer = Done }
     unfolding answerOf when
     read-done t e = simp e
+
+    pub read-refused : (t : Controller) (n : ℕ) → refusal (sheetReadGrounds form bytes) ≡ n → ¬ (n ≡ 0) → sheetReadOf form t bytes ≡ record { controller = t; answer = Refused n }
+    unfolding answerOf when
+    read-refused t n e h = simp (e, ne-eqb n 0 h)
 
     pub read-valid : refusal (sheetReadGrounds form bytes) ≡ 0 → valid (stateOf form (sheetIn form bytes)) ≡ true
     unfolding refusal first
@@ -104,18 +117,8 @@ module _ (form : Form) where
   unfolding refusal first when
   refused-by-sheet bytes h = rw (le-ltb _ _ h)
 
-  -- it is read by its faults, and told where there is none
-  module _ (s : Controller) (bytes : List ℕ) (room : sheetSize form ≤ length bytes) where
-    pub read-faults : refusal (sheetReadGrounds form bytes) ≡ refusal (sheetFaults form bytes)
-    read-faults = refused-by-sheet bytes room ∙ sym (faults-in bytes)
-
-    pub read-refused : (n : ℕ) → n ≡ refusal (sheetFaults form bytes) → ¬ (n ≡ 0) → record { controller = s; answer = Refused n } ≡ sheetReadOf form s bytes
-    unfolding answerOf when
-    read-refused n e h = simp (read-faults, sym e, ne-eqb n 0 h)
-
-    pub read-told : refusal (sheetFaults form bytes) ≡ 0 → record { controller = stateOf form (sheetIn form bytes); answer = Done } ≡ sheetReadOf form s bytes
-    unfolding answerOf when
-    read-told e = simp (read-faults, e)
+  pub read-faults : (bytes : List ℕ) → sheetSize form ≤ length bytes → refusal (sheetReadGrounds form bytes) ≡ refusal (sheetFaults form bytes)
+  read-faults bytes room = refused-by-sheet bytes room ∙ sym (faults-in bytes)
 
   -- the sheet of a state in its ranges, of which all has a place in the form, is accepted
   pub sheet-accepted : (s : Controller) → length (s .channels) ≡ 4 → exceeds form s ≡ false → valid s ≡ true → refusedIn (sheetOf form s) ≡ 0

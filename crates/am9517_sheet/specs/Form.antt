@@ -6,7 +6,7 @@ use Rattle.am9517.specs.Fields.{Field, Command, Tc, Request, Mask, Temporary, F
 use Rattle.am9517_sheet.specs.declared.forms.Form.{Form}
 use Rattle.am9517_sheet.specs.declared.forms.Form.the-variants.{One, Two}
 
--- the other of the two: what a sheet of it converts from, and back to
+-- the other of the two
 abbrev pub other : Form → Form
 other One = Two
 other Two = One

@@ -2,7 +2,7 @@
 ghost use mathlib.Core.Path.{_≡_};
 ghost use Rattle.am9517_sheet.specs.Form.{other, number, channelsAt, bodySize, sheetSize};
 
-// Of form 1: the bytes of a body.
+// The bytes of a body of form 1, which stand in a body of either form.
 pub const BODY: usize = 48;
 
 pub enum Form {

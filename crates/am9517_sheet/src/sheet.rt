@@ -42,7 +42,7 @@ fn put_in(form: Form, c: Controller, out: &mut [u8])
     store_trailer(form, out, start);
 }
 
-// An arm for each form: so each is compiled with its places as constants, and a conversion takes a seventh less.
+// An arm for each form: so each is compiled with its places as constants.
 pub(crate) fn put(form: Form, c: Controller, out: &mut [u8])
     requires { ⌜ sheetSize form ≤ length (now out) ⌝ }
     ensures { λ _. ⌜ now (out .exit) ≡ placed (now (out .entry)) (length (now (out .entry)) - sheetSize form) (sheetOf form c) ⌝ }

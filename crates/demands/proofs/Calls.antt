@@ -77,23 +77,23 @@ round-refuses s m d r k =
     (λ h. subst (λ (g : RoundGiven). Zeros (roundBy (roundCallOf g) .beside)) (sym (round-refused s m d r k h)) (also refl (also refl (also refl (also refl (also refl (also refl (also refl (also refl (also refl none))))))))))
     (round-told s m d r k)
 
-demand-1-of-calls : (s : Controller) (c : Call) → CallRefuses (does s c) (callGrounds s c) (lentTo s c)
-demand-1-of-calls s CCheck = record { exactly = refusal-exactly (lookGrounds s); stays = λ h. refl; only = λ h. also refl none }
-demand-1-of-calls s CEntitled = look-refuses s _
-demand-1-of-calls s CStatus = look-refuses s _
-demand-1-of-calls s (CWrite r x) = by-operation s (Write r x) _ (λ h. also (no-value _ _ _ _ h) none) (number-told _ _ _ _ refl)
-demand-1-of-calls s (CRead r) = by-operation s (Read r) _ (λ h. also (no-value _ _ _ _ h) none) (number-told _ _ _ _ refl)
-demand-1-of-calls s (CPins p) = by-operation s (Pins p) _ (λ h. also (no-value _ _ _ _ h) none) (number-told _ _ _ _ refl)
-demand-1-of-calls s (CWaits n) = by-operation s (Waits n) _ (λ h. also (no-value _ _ _ _ h) none) (number-told _ _ _ _ refl)
-demand-1-of-calls s CReset = by-operation s Reset _ (λ h. also (no-value _ _ _ _ h) none) (number-told _ _ _ _ refl)
-demand-1-of-calls s CGrant = by-operation s Grant _ (λ h. also (no-value _ _ _ _ h) none) (number-told _ _ _ _ refl)
-demand-1-of-calls s (CRun m d r limit eop) = run-refuses s m d r limit eop
-demand-1-of-calls s (CRound m d r k) = round-refuses s m d r k
-demand-1-of-calls s (CSave form bytes) = by-operation s (SheetWriting form bytes) [] (λ h. none) (number-said _)
-demand-1-of-calls s (CLoad form bytes) = by-operation s (SheetReading form bytes) _ (λ h. also refl none) (number-said _)
+calls-refuse : (s : Controller) (c : Call) → CallRefuses (does s c) (callGrounds s c) (lentTo s c)
+calls-refuse s CCheck = record { exactly = refusal-exactly (lookGrounds s); stays = λ h. refl; only = λ h. also refl none }
+calls-refuse s CEntitled = look-refuses s _
+calls-refuse s CStatus = look-refuses s _
+calls-refuse s (CWrite r x) = by-operation s (Write r x) _ (λ h. also (no-value _ _ _ _ h) none) (number-told _ _ _ _ refl)
+calls-refuse s (CRead r) = by-operation s (Read r) _ (λ h. also (no-value _ _ _ _ h) none) (number-told _ _ _ _ refl)
+calls-refuse s (CPins p) = by-operation s (Pins p) _ (λ h. also (no-value _ _ _ _ h) none) (number-told _ _ _ _ refl)
+calls-refuse s (CWaits n) = by-operation s (Waits n) _ (λ h. also (no-value _ _ _ _ h) none) (number-told _ _ _ _ refl)
+calls-refuse s CReset = by-operation s Reset _ (λ h. also (no-value _ _ _ _ h) none) (number-told _ _ _ _ refl)
+calls-refuse s CGrant = by-operation s Grant _ (λ h. also (no-value _ _ _ _ h) none) (number-told _ _ _ _ refl)
+calls-refuse s (CRun m d r limit eop) = run-refuses s m d r limit eop
+calls-refuse s (CRound m d r k) = round-refuses s m d r k
+calls-refuse s (CSave form bytes) = by-operation s (SheetWriting form bytes) [] (λ h. none) (number-said _)
+calls-refuse s (CLoad form bytes) = by-operation s (SheetReading form bytes) _ (λ h. also refl none) (number-said _)
 
-pub demand-1-in-c : Demand1OfCalls
-demand-1-in-c = record { calls = demand-1-of-calls; conversions = λ s to source target. by-operation s (Converting to source target) [] (λ h. none) (number-said _) }
+pub demand-1-of-calls : Demand1OfCalls
+demand-1-of-calls = record { calls = calls-refuse; conversions = λ s to source target. by-operation s (Converting to source target) [] (λ h. none) (number-said _) }
 
 number : (n : ℕ) → ¬ (suc n ≡ 0)
 number n e = omega arith
@@ -141,7 +141,7 @@ abbrev Asks : Controller → Call → Type 0
 Asks s c = valid s ≡ false → First 1 (callGrounds s c)
 
 by-1 : (s : Controller) (c : Call) → Asks s c → valid s ≡ false → does s c .refusal ≡ 1
-by-1 s c asks v = demand-1-of-calls s c .exactly 1 (number 0) .1 (asks v)
+by-1 s c asks v = calls-refuse s c .exactly 1 (number 0) .1 (asks v)
 
 out-of-ranges : (s : Controller) (c : Call) → valid s ≡ false → ((form : Form) (bytes : List ℕ) → ¬ (c ≡ CLoad form bytes)) → does s c .refusal ≡ 1
 out-of-ranges s CCheck v h = by-1 s CCheck (λ e. here (ap not e) refl) v
@@ -182,7 +182,7 @@ accepted-good s (CSave form bytes) h = accepted-by s (CSave form bytes) (λ e. h
 accepted-good s (CLoad form bytes) h = read s form bytes h
 
 refused-stays : (s : Controller) (c : Call) → lentTo s c .controller ≡ s → ¬ (does s c .refusal ≡ 0) → does s c .leaves .controller ≡ s
-refused-stays s c lent h = ap (λ (x : Scene). x .controller) (demand-1-of-calls s c .stays h) ∙ lent
+refused-stays s c lent h = ap (λ (x : Scene). x .controller) (calls-refuse s c .stays h) ∙ lent
 
 lent-chip : (s : Controller) (c : Call) → lentTo s c .controller ≡ s
 lent-chip s CCheck = refl

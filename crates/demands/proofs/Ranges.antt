@@ -5,7 +5,7 @@ use mathlib.Core.Bool.{Bool, true, false, not}
 use mathlib.Core.List.{List, [], _∷_}
 use native.Mathlib.Omega.{arith}
 use lib.Dec.{eqb}
-use borrow.Author.Tests.{eqb-true, eqb-false, not-false}
+use borrow.Author.Tests.{eqb-true, eqb-false}
 use Rattle.words.specs.Choice.{_and_}
 use Rattle.words.specs.Grounds.{Ground, first}
 use Rattle.am9517.specs.Editions.{numberOf}
@@ -21,8 +21,6 @@ use Rattle.am9517.specs.declared.Answer.{Answer}
 use Rattle.am9517_service.specs.World.{Stop, startOf}
 use Rattle.am9517_service.specs.Answers.{Given, stopped, runGrounds}
 use Rattle.am9517_sheet.specs.declared.forms.Form.{Form}
-use Rattle.am9517_sheet.specs.Body.{stateOf}
-use Rattle.am9517_sheet.specs.Sheet.{sheetIn, sheetReadGrounds}
 use Rattle.demands.specs.Lists.{All, none, also}
 use Rattle.demands.specs.Operations.{Op, Write, Read, Pins, Reset, Waits, Grant, Run, Round, SheetWriting, SheetReading, Converting, next, afterAll, said}
 use Rattle.demands.specs.Refusals.{First, here, later, grounds}
@@ -35,7 +33,7 @@ use Rattle.am9517.proofs.KeepLaws.{granted-kept}
 use Rattle.am9517_service.proofs.AnswerLaws.{run-refused, run-accepted}
 use Rattle.am9517_service.proofs.KeepLaws.{run-left}
 use Rattle.am9517_service.proofs.GrantLaws.{picked-below}
-use Rattle.am9517_sheet.proofs.SheetLaws.{number-said}
+use Rattle.am9517_sheet.proofs.SheetLaws.{number-said, read-valid}
 use Rattle.demands.proofs.AccessLaws.{cleared-ranges, write-ranges, read-ranges, pins-ranges, waits-ranges}
 use Rattle.demands.proofs.Refusals.{demand-1}
 use Rattle.demands.proofs.Fairness.{open-run}
@@ -80,17 +78,6 @@ calls-valid (suc left) s t m d r e v =
     when-both (λ (ops : List Op). Valid (afterAll s ops)) _ v
     (when-both (λ (ops : List Op). Valid (afterAll (ran s) ops)) _ w (calls-valid left (ran s) (ran t) _ _ _ (ap ran e) w))
 
--- an accepted sheet has no ground 14
-sheet-valid : (form : Form) (bytes : List ℕ) → refusal (sheetReadGrounds form bytes) ≡ 0 → valid (stateOf form (sheetIn form bytes)) ≡ true
-unfolding refusal first
-sheet-valid form bytes free =
-    let p9 = passed _ _ _ (omega arith) free in
-    let p10 = passed _ _ _ (omega arith) (p9 .next) in
-    let p11 = passed _ _ _ (omega arith) (p10 .next) in
-    let p12 = passed _ _ _ (omega arith) (p11 .next) in
-    let p13 = passed _ _ _ (omega arith) (p12 .next) in
-    not-false _ (passed _ _ _ (omega arith) (p13 .next) .test)
-
 pub kept : (s : Controller) (op : Op) → valid s ≡ true → valid (next s op) ≡ true
 kept s (Write r b) v = outcome-valid s v _ _ _ (λ free. write-ranges s (ranges s v) r b free)
 kept s (Read r) v = outcome-valid s v _ _ _ (λ free. read-ranges s (ranges s v) r)
@@ -102,13 +89,13 @@ kept s (Run m d r limit eop) v = run-valid s v m d r limit eop
 kept s (Round m d r k) v =
     subst Valid (sym (round-is-calls s m d r k .leaves)) (when-both (λ (ops : List Op). Valid (afterAll s ops)) _ (calls-valid k s s m d r refl v) v)
 kept s (SheetWriting form out) v = v
-kept s (SheetReading form bytes) v = when-each Valid _ (λ e. sheet-valid form bytes (eqb-true _ _ e)) (λ e. v)
+kept s (SheetReading form bytes) v = when-each Valid _ (λ e. read-valid form bytes (eqb-true _ _ e)) (λ e. v)
 kept s (Converting to source out) v = v
 
 pub read : (s : Controller) (form : Form) (bytes : List ℕ) → said s (SheetReading form bytes) ≡ 0 → valid (next s (SheetReading form bytes)) ≡ true
 read s form bytes free =
     let e = sym (number-said _) ∙ free in
-    when-each Valid _ (λ z. sheet-valid form bytes e) (λ z. absurd (eqb-false _ _ z e))
+    when-each Valid _ (λ z. read-valid form bytes e) (λ z. absurd (eqb-false _ _ z e))
 
 kept-all : (s : Controller) (ops : List Op) → valid s ≡ true → valid (afterAll s ops) ≡ true
 kept-all s [] v = v

@@ -2,6 +2,7 @@
 use Prim.Native.Nat.{ℕ, _≤_}
 use mathlib.Core.Path.{_≡_, refl, sym, ap, _∙_}
 use mathlib.Core.List.{List}
+use native.Mathlib.Omega.{arith}
 use mathlib.Core.Bool.{true}
 use lib.ListN.{length}
 use borrow.Author.Tests.{le-ltb}
@@ -16,9 +17,9 @@ use Rattle.am9517_sheet.specs.declared.SheetAnswer.the-variants.{Done, Refused}
 use Rattle.am9517_sheet.specs.declared.SheetRead.{SheetRead}
 use Rattle.am9517_sheet.specs.Body.{exceeds, stateOf}
 use Rattle.am9517_sheet.specs.declared.forms.Form.the-variants.{One, Two}
-use Rattle.am9517_sheet.specs.Sheet.{sheetRefusalNumber, answerOf, Stored, stored, sheetWriteOf, sheetReadOf}
+use Rattle.am9517_sheet.specs.Sheet.{sheetRefusalNumber, Stored, stored, sheetWriteOf, sheetReadOf}
 use Rattle.demands.specs.Sheets.{RoundTrips}
-use Rattle.am9517_sheet.proofs.SheetLaws.{number-said, write-done, write-free, read-done}
+use Rattle.am9517_sheet.proofs.SheetLaws.{number-said, write-done, write-free, read-done, put-refused}
 use Rattle.am9517_sheet.proofs.BodyLaws.{zero-within, other-exceeds}
 use Rattle.am9517_sheet.proofs.TripLaws.{written-read, read-copied, read-written, fresh-sheet}
 
@@ -30,8 +31,8 @@ pub zero-written : (s : Controller) (out : List ℕ) → valid s ≡ true → s 
 zero-written s out v e w room = ap (λ (w : Stored). w .answer) (write-done One s out (write-free One s (length out) v room (zero-within s e w)))
 
 pub other-refused : (s : Controller) (out : List ℕ) → valid s ≡ true → ¬ ((s .edition ≡ numberOf Am9517A) × (s .waits ≡ 0)) → 56 ≤ length out → sheetWriteOf One s out ≡ stored (Refused 15) out
-unfolding answerOf refusal first when
-other-refused s out v e room = simp (v, le-ltb _ _ room, other-exceeds s e)
+unfolding refusal first when
+other-refused s out v e room = put-refused _ One s out 15 (simp (v, le-ltb _ _ room, other-exceeds s e)) (λ z. omega arith)
 
 read-edition : (t : Controller) (bytes : List ℕ) → sheetReadOf One t bytes .answer ≡ Done → sheetReadOf One t bytes .controller .edition ≡ numberOf Am9517A
 unfolding stateOf

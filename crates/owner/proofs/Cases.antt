@@ -5,7 +5,7 @@ use mathlib.Core.Bool.{Bool, true, false, not}
 use mathlib.Core.List.{List, [], _∷_, _++_}
 use native.Mathlib.Omega.{arith}
 use lib.Dec.{eqb, ltb}
-use lib.ListN.{length}
+use lib.ListN.{length, replicate}
 use borrow.Author.Tests.{eq-eqb, ne-eqb, lt-ltb}
 use Rattle.words.specs.Choice.{when, _and_}
 use Rattle.words.specs.Grounds.{first}
@@ -256,7 +256,7 @@ wait-cases =
     (also (λ m h. refl)
     (also (λ m h. sheet-writing-says One slowed m 55 h)
     (also (λ m h. sheet-writing-says One slowed m 56 h)
-    (also (λ m h. sheet-writing-says One (put slowed Edition 1) m 56 h) none)))))
+    (also (λ m h. sheet-writing-says One slowIntel m 56 h) none)))))
 
 form-cases : All Holds formLimits
 unfolding
@@ -270,9 +270,13 @@ form-cases =
     (also (λ m h. refl)
     (also (λ m h. converting-says Two (fresh 0) (sheetOf One (fresh 0)) m 57 h)
     (also (λ m h. converting-says Two (fresh 0) (sheetOf One (fresh 0)) m 58 h)
+    (also (λ m h. converting-says Two (fresh 0) (replicate 55 0) m 58 h)
+    (also (λ m h. converting-says Two (fresh 0) (sheetOf Two slowed) m 58 h)
     (also (λ m h. converting-says One (fresh 0) (sheetOf Two slowed) m 55 h)
+    (also (λ m h. converting-says One (fresh 0) (replicate 57 0) m 56 h)
+    (also (λ m h. converting-says One (fresh 0) (sheetOf Two (put slowed Edition 2)) m 56 h)
     (also (λ m h. converting-says One (fresh 0) (sheetOf Two slowed) m 56 h)
-    (also (λ m h. converting-says One (fresh 0) (sheetOf Two (fresh 0)) m 56 h) none))))))))))
+    (also (λ m h. converting-says One (fresh 0) (sheetOf Two (fresh 0)) m 56 h) none))))))))))))))
 
 all-both : {A : Type 0} {P : A → Type 0} {xs ys : List A} → All P xs → All P ys → All P (xs ++ ys)
 all-both none h = h

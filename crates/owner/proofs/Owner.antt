@@ -1,7 +1,7 @@
 -- All that the owner asked for, proved.
 use Rattle.owner.specs.Owner.{Owner}
 use Rattle.demands.proofs.Refusals.{demand-1}
-use Rattle.demands.proofs.Calls.{demand-1-in-c, chips-stay-good}
+use Rattle.demands.proofs.Calls.{demand-1-of-calls, chips-stay-good}
 use Rattle.demands.proofs.Outcomes.{one-outcome, one-outcome-of-calls, one-outcome-where-asked}
 use Rattle.demands.proofs.Ranges.{ranges-kept}
 use Rattle.demands.proofs.Steps.{steps-over-the-width}
@@ -19,7 +19,7 @@ pub owner : Owner
 owner =
     record {
       refusals = demand-1;
-      refusalsInC = demand-1-in-c;
+      refusalsInC = demand-1-of-calls;
       oneOutcome = one-outcome;
       oneOutcomeInC = one-outcome-of-calls;
       oneOutcomeWhereAsked = one-outcome-where-asked;

@@ -2,7 +2,7 @@
 use Prim.Native.Nat.{ℕ, zero, suc, _+_, _-_}
 use mathlib.Core.Path.{_≡_}
 use mathlib.Core.List.{List, [], _∷_, _++_}
-use lib.ListN.{length, getD, set}
+use lib.ListN.{length, getD, set, replicate}
 use Rattle.am9517.specs.Editions.{numberOf}
 use Rattle.am9517.specs.State.{fresh}
 use Rattle.am9517.specs.Fields.{make, put, blank, but, Field, Command, Tc, Mask, Temporary, Pins, Lowest, Edition, Waits}
@@ -322,6 +322,10 @@ editionLimits =
 abbrev pub slowed : Controller
 slowed = put (fresh (numberOf Am9517A)) Waits 1
 
+-- and an Intel chip with one
+abbrev pub slowIntel : Controller
+slowIntel = put slowed Edition (numberOf Intel8237A)
+
 -- A3: "set by its own call when idle (refusals 1, 3)"; "A state with waits can't go into form 1: refusal 15", after 9; an Intel chip's, too
 abbrev pub waitLimits : List Case
 waitLimits =
@@ -330,12 +334,8 @@ waitLimits =
     ∷ calledIn 2 0 (λ m. op.Waits 0) 1
     ∷ calledFrom slowed 55 (λ m. SheetWriting One m) 9
     ∷ calledFrom slowed 56 (λ m. SheetWriting One m) 15
-    ∷ calledFrom (put slowed Edition (numberOf Intel8237A)) 56 (λ m. SheetWriting One m) 15
+    ∷ calledFrom slowIntel 56 (λ m. SheetWriting One m) 15
     ∷ []
-
--- a fresh Intel chip with one wait state
-abbrev pub slowIntel : Controller
-slowIntel = put slowed Edition (numberOf Intel8237A)
 
 -- A5: "Reading and writing form 2 keep 01's order, with 58 in refusal 9"; "the order is 9 (source or target too short), 10 to 14, then 15"
 abbrev pub formLimits : List Case
@@ -348,7 +348,11 @@ formLimits =
     ∷ called 0 (λ m. SheetReading Two (sheetOf Two (put slowIntel Edition 2))) 14
     ∷ called 57 (λ m. Converting Two (sheetOf One (fresh (numberOf Am9517A))) m) 9
     ∷ called 58 (λ m. Converting Two (sheetOf One (fresh (numberOf Am9517A))) m) 0
+    ∷ called 58 (λ m. Converting Two (replicate 55 0) m) 9
+    ∷ called 58 (λ m. Converting Two (sheetOf Two slowed) m) 11
     ∷ called 55 (λ m. Converting One (sheetOf Two slowed) m) 9
+    ∷ called 56 (λ m. Converting One (replicate 57 0) m) 9
+    ∷ called 56 (λ m. Converting One (sheetOf Two (put slowed Edition 2)) m) 14
     ∷ called 56 (λ m. Converting One (sheetOf Two slowed) m) 15
     ∷ called 56 (λ m. Converting One (sheetOf Two (fresh (numberOf Am9517A))) m) 0
     ∷ []

@@ -8,15 +8,14 @@ use Rattle.am9517.specs.declared.Controller.{Controller}
 use Rattle.am9517_sheet.specs.declared.SheetAnswer.the-variants.{Done}
 use Rattle.am9517_sheet.specs.declared.SheetRead.{SheetRead}
 use Rattle.am9517_sheet.specs.declared.forms.Form.{Form}
-use Rattle.am9517_sheet.specs.Bytes.{placed, last, OfBytes}
+use Rattle.am9517_sheet.specs.Bytes.{last, OfBytes}
 use Rattle.am9517_sheet.specs.Form.{sheetSize}
 use Rattle.am9517_sheet.specs.Body.{exceeds, stateOf}
-use Rattle.am9517_sheet.specs.Sheet.{sheetIn, sheetOf, sheetRefusalNumber, Stored, stored, sheetWriteOf, sheetReadGrounds, sheetReadOf}
+use Rattle.am9517_sheet.specs.Sheet.{sheetRefusalNumber, Stored, stored, sheetWriteOf, sheetReadGrounds, sheetReadOf}
 use Rattle.am9517_sheet.specs.Convert.{toldIn, convertGrounds, rewritten}
-use Rattle.am9517_sheet.proofs.BytesLaws.{placed-end}
 use Rattle.am9517_sheet.proofs.BodyLaws.{told-within}
 use Rattle.am9517_sheet.proofs.SheetLaws.{number-said, write-done, write-free, read-done, read-room, read-faults, read-valid}
-use Rattle.am9517_sheet.proofs.TripLaws.{written-read, good-sheet}
+use Rattle.am9517_sheet.proofs.TripLaws.{written-read, read-copied}
 use Rattle.am9517_sheet.proofs.ConvertLaws.{convert-given, convert-done, convert-free}
 
 four-told : (form : Form) (sheet : List ℕ) → length (stateOf form sheet .channels) ≡ 4
@@ -29,7 +28,7 @@ module _ (from to : Form) (source out : List ℕ) (done : rewritten from to sour
 
   -- the source is one that its own form's reader accepts
   pub source-read : refusal (sheetReadGrounds from source) ≡ 0
-  source-read = let given = convert-given from to source (length out) free in read-faults from (toldIn from source) source (given .here) ∙ given .fine
+  source-read = let given = convert-given from to source (length out) free in read-faults from source (given .here) ∙ given .fine
 
   -- to convert is to write the state that the source tells
   pub convert-writes : rewritten from to source out ≡ sheetWriteOf to (toldIn from source) out
@@ -48,12 +47,14 @@ module _ (from to : Form) (source out : List ℕ) (done : rewritten from to sour
       → rewritten to from (rewritten from to source out .bytes) again ≡ stored Done (take (length again - sheetSize from) again ++ last (sheetSize from) source)
   convert-back again byte room =
       let mid = rewritten from to source out .bytes in
-      let told = convert-told (toldIn from source) in
-      let fine : refusal (sheetReadGrounds to mid) ≡ 0 = sym (number-said _) ∙ ap (λ (r : SheetRead). sheetRefusalNumber (r .answer)) told in
+      let t = toldIn from source in
+      let there = convert-told t in
+      let fine : refusal (sheetReadGrounds to mid) ≡ 0 = sym (number-said _) ∙ ap (λ (r : SheetRead). sheetRefusalNumber (r .answer)) there in
       let here = read-room to mid fine in
-      let state : toldIn to mid ≡ toldIn from source = ap (λ (r : SheetRead). r .controller) (sym (read-done to mid (toldIn from source) fine) ∙ told) in
-      let good = good-sheet from source byte source-read in
+      let state : toldIn to mid ≡ t = ap (λ (r : SheetRead). r .controller) (sym (read-done to mid t fine) ∙ there) in
+      let read = read-done from source t source-read in
       convert-done to from mid again 0
-      (convert-free to from mid (length again) here room (sym (read-faults to (toldIn from source) mid here) ∙ fine) (ap (exceeds from) state ∙ told-within from _)) refl
-      ∙ ap (λ (s : Controller). stored Done (placed again (length again - sheetSize from) (sheetOf from s))) state
-      ∙ ap (stored Done) (rw (good .same) (placed-end again (sheetIn from source) (sheetSize from) (good .size) room))
+      (convert-free to from mid (length again) here room (sym (read-faults to mid here) ∙ fine) (ap (exceeds from) state ∙ told-within from _)) refl
+      ∙ sym (write-done from (toldIn to mid) again (write-free from (toldIn to mid) (length again) (read-valid to mid fine) room (ap (exceeds from) state ∙ told-within from _)))
+      ∙ ap (λ (s : Controller). sheetWriteOf from s again) (state ∙ ap (λ (r : SheetRead). r .controller) (sym read))
+      ∙ read-copied from t source again byte (ap (λ (r : SheetRead). r .answer) read) room

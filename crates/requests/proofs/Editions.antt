@@ -5,6 +5,7 @@ use mathlib.Core.Bool.{Bool, true, false, not, _&&_}
 use mathlib.Core.List.{List, [], _∷_}
 use native.Mathlib.Omega.{arith}
 use lib.Dec.{eqb, ltb, leb}
+use lib.ListN.{length}
 use borrow.Author.Tests.{eqb-true, eqb-false, ne-eqb, le-leb, leb-true, leb-false}
 use Rattle.words.specs.Choice.{when, _and_}
 use Rattle.words.specs.Grounds.{_if_, first}
@@ -29,14 +30,15 @@ use Rattle.am9517_service.specs.Answers.{Given, given, stopped, refusedOf, wron
 use Rattle.am9517_service.specs.RoundAnswers.{RoundGiven, roundGiven, closed, roundGrounds, roundedOf}
 use Rattle.am9517_service.specs.Round.{beginning, Close, close, roundOf}
 use Rattle.am9517_service.specs.declared.RoundAnswer.the-variants as round
-use Rattle.am9517_sheet.specs.Body.{stateOf}
-use Rattle.am9517_sheet.specs.Sheet.{sheetIn, sheetReadGrounds}
+use Rattle.am9517_sheet.specs.declared.forms.Form.the-variants.{Two}
+use Rattle.am9517_sheet.specs.Body.{exceeds, stateOf}
+use Rattle.am9517_sheet.specs.Sheet.{answerOf, sheetIn, sheetReadGrounds}
 use Rattle.demands.specs.Operations.{Op, Write, Read, Pins, Reset, Waits, Grant, Run, Round, SheetWriting, SheetReading, Converting, scene, after, ranScene, roundScene}
-use Rattle.requests.specs.Editions.{ours, intel, Told, RunTold, RoundTold, reply, MeetsEop, Shared, asIntel, SameInBoth, withTc, EditionsDiffer}
+use Rattle.requests.specs.Editions.{ours, intel, Told, RunTold, RoundTold, SheetTold, reply, MeetsEop, Shared, asIntel, SameInBoth, withTc, EditionsDiffer}
 use Rattle.words.proofs.ChoiceLaws.{when-over}
 use Rattle.words.proofs.GroundLaws.{first-over}
 use Rattle.am9517_service.proofs.AnswerLaws.{run-refused, run-accepted}
-use Rattle.demands.proofs.Sheets.{full-written, zero-written, other-refused}
+use Rattle.demands.proofs.Sheets.{zero-written, other-refused}
 use Rattle.requests.proofs.LastLaws.{edition-kept}
 use Rattle.requests.proofs.EditionRunLaws.{marked, meets, inStop, Ahead, not-yet, run-in}
 use Rattle.requests.proofs.EditionRoundLaws.{inClose, picked-in, granted-in, round-in}
@@ -234,6 +236,10 @@ unfolding outcome first when afterWrite
 register-e s b v i =
     (ap (λ (n : ℕ). outcome n (intel s) (afterWrite (intel s) 0xE b) Done) (e-number (intel s) b v i), ap (λ (n : ℕ). outcome n (ours s) (afterWrite (ours s) 0xE b) Done) (e-number (ours s) b (sym (valid-in s) ∙ v) i))
 
+same-answer : (s : Controller) (out : List ℕ) → reply (intel s) (SheetWriting Two out) ≡ reply (ours s) (SheetWriting Two out)
+unfolding exceeds
+same-answer s out = ap (λ (v : Bool). SheetTold (answerOf (refusal (1 if not v ∷ 9 if ltb (length out) 58 ∷ 15 if false ∷ [])))) (valid-in s)
+
 pub editions-differ : EditionsDiffer
 editions-differ =
     record {
@@ -242,5 +248,5 @@ editions-differ =
       registerE = register-e;
       metEop = λ s m d r limit eop h. (run-says s m d r limit eop, run-met s m d r limit eop h);
       sheets = λ s out v w room. (other-refused (intel s) out v (λ e. omega (arith, e .0)) room, zero-written (ours s) out (sym (valid-in s) ∙ v) refl w room);
-      sheets2 = λ s out v room. (full-written (intel s) out v room, full-written (ours s) out (sym (valid-in s) ∙ v) room);
+      sheets2 = same-answer;
     }

@@ -1,29 +1,31 @@
 -- The theorems about the two forms of the sheet.
 use Prim.Native.Nat.{ℕ, _+_, _-_, _≤_, _<_}
 use mathlib.Core.Path.{_≡_, refl, sym, ap, _∙_, subst}
-use mathlib.Core.Bool.{Bool, true, false}
+use mathlib.Core.Bool.{Bool, true, false, _||_}
 use mathlib.Core.List.{List, _++_}
 use native.Mathlib.Omega.{arith}
 use lib.Dec.{ltb}
 use lib.ListN.{length, take}
-use borrow.Author.Tests.{le-ltb, ne-eqb}
+use borrow.Author.Tests.{ltb-false, le-ltb}
 use Rattle.words.specs.Choice.{when}
+use Rattle.words.specs.Grounds.{first}
 use Rattle.am9517.specs.Refusals.{refusal}
 use Rattle.am9517.specs.declared.Controller.{Controller}
+use Rattle.am9517_sheet.specs.declared.SheetAnswer.{SheetAnswer}
 use Rattle.am9517_sheet.specs.declared.SheetAnswer.the-variants.{Done, Refused}
 use Rattle.am9517_sheet.specs.declared.SheetRead.{SheetRead}
 use Rattle.am9517_sheet.specs.declared.forms.Form.{Form}
 use Rattle.am9517_sheet.specs.declared.forms.Form.the-variants.{One, Two}
 use Rattle.am9517_sheet.specs.Bytes.{last, OfBytes}
 use Rattle.am9517_sheet.specs.Form.{other, sheetSize}
-use Rattle.am9517_sheet.specs.Body.{exceeds}
-use Rattle.am9517_sheet.specs.Sheet.{sheetRefusalNumber, answerOf, Stored, stored, sheetWriteOf, sheetFaults, sheetReadGrounds, sheetReadOf}
-use Rattle.am9517_sheet.specs.Convert.{toldIn, rewritten, convertOf}
+use Rattle.am9517_sheet.specs.Body.{exceeds, stateOf}
+use Rattle.am9517_sheet.specs.Sheet.{sheetRefusalNumber, Stored, stored, sheetWriteOf, sheetFaults, sheetReadGrounds, sheetReadOf}
+use Rattle.am9517_sheet.specs.Convert.{toldIn, convertGrounds, rewritten, convertOf}
 use Rattle.requests.specs.Forms.{changedAt, faultAt, SheetForms}
 use Rattle.words.proofs.ChoiceLaws.{when-both, when-miss}
 use Rattle.am9517_sheet.proofs.BodyLaws.{zero-within, other-exceeds}
-use Rattle.am9517_sheet.proofs.SheetLaws.{number-said, read-done, read-room, read-faults}
-use Rattle.am9517_sheet.proofs.ConvertLaws.{convert-free, convert-over, convert-done, convert-refused}
+use Rattle.am9517_sheet.proofs.SheetLaws.{number-said, read-done, read-refused, read-room, read-faults}
+use Rattle.am9517_sheet.proofs.ConvertLaws.{convert-short, convert-fault, convert-free, convert-over, convert-done, convert-refused}
 use Rattle.requests.proofs.ConvertTripLaws.{source-read, convert-writes, convert-told, convert-back}
 use Rattle.requests.proofs.OtherFormLaws.{other-answers, other-refuses}
 use Rattle.requests.proofs.ChangedLaws.{byte-changed}
@@ -34,10 +36,6 @@ free-of form t bytes done = sym (number-said _) ∙ ap sheetRefusalNumber done
 
 state-of : (form : Form) (t : Controller) (bytes : List ℕ) → sheetReadOf form t bytes .answer ≡ Done → sheetReadOf form t bytes .controller ≡ toldIn form bytes
 state-of form t bytes done = ap (λ (r : SheetRead). r .controller) (read-done form bytes t (free-of form t bytes done))
-
-refused-with : (form : Form) (u : Controller) (bytes : List ℕ) (n : ℕ) → refusal (sheetReadGrounds form bytes) ≡ n → ¬ (n ≡ 0) → sheetReadOf form u bytes ≡ record { controller = u; answer = Refused n }
-unfolding answerOf when
-refused-with form u bytes n e h = simp (e, ne-eqb n 0 h)
 
 -- of two numbers that are not 0 neither is
 abbrev Number : ℕ → Type 0
@@ -52,13 +50,21 @@ number n h z = omega (arith, z)
 fault-number : (form : Form) (i : ℕ) → Number (faultAt form i)
 fault-number form i = either _ _ _ (number 13 (omega arith)) (either _ _ _ (number 11 (omega arith)) (either _ _ _ (number 12 (omega arith)) (either _ _ _ (number 13 (omega arith)) (number 10 (omega arith)))))
 
+-- a slice that is too short, for a reader and beside another test
+read-short : (form : Form) (bytes : List ℕ) → ltb (length bytes) (sheetSize form) ≡ true → refusal (sheetReadGrounds form bytes) ≡ 9
+unfolding refusal first when
+read-short form bytes e = rw e
+
+short : (a b : Bool) → a ≡ true → a || b ≡ true
+short a b e = rw e
+
 -- a good sheet, to be converted
 module _ (from to : Form) (t : Controller) (source target : List ℕ) (done : sheetReadOf from t source .answer ≡ Done) (room : sheetSize to ≤ length target) where
   abbrev here : sheetSize from ≤ length source
   here = read-room from source (free-of from t source done)
 
   abbrev fine : refusal (sheetFaults from source) ≡ 0
-  fine = sym (read-faults from t source here) ∙ free-of from t source done
+  fine = sym (read-faults from source here) ∙ free-of from t source done
 
   goes : exceeds to (toldIn from source) ≡ false → rewritten from to source target .answer ≡ Done
   goes within = ap (λ (w : Stored). w .answer) (convert-done from to source target 0 (convert-free from to source (length target) here room fine within) refl)
@@ -102,23 +108,50 @@ one-of-two : (t u : Controller) (bytes : List ℕ) → sheetReadOf Two t bytes .
 one-of-two t u bytes done =
     let free = free-of Two t bytes done in
     let room : 58 ≤ length bytes = read-room Two bytes free in
-    refused-with One u bytes 11 (other-answers Two bytes free ∙ when-miss _ _ _ (le-ltb (length bytes) 56 (omega arith))) (number 11 (omega arith))
+    read-refused One bytes u 11 (other-answers Two bytes free ∙ when-miss _ _ _ (le-ltb (length bytes) 56 (omega arith))) (number 11 (omega arith))
 
 two-of-one : (t u : Controller) (bytes : List ℕ) → sheetReadOf One t bytes .answer ≡ Done → sheetReadOf Two u bytes ≡ record { controller = u; answer = Refused (when (ltb (length bytes) 58) 9 11) }
-two-of-one t u bytes done = refused-with Two u bytes _ (other-answers One bytes (free-of One t bytes done)) (either _ 9 11 (number 9 (omega arith)) (number 11 (omega arith)))
+two-of-one t u bytes done = read-refused Two bytes u _ (other-answers One bytes (free-of One t bytes done)) (either _ 9 11 (number 9 (omega arith)) (number 11 (omega arith)))
+
+-- "Old sheets convert with edition 0 and waits 0."
+zero : (u : Controller) (source target : List ℕ) → convertOf Two source target .answer ≡ Done
+    → (sheetReadOf Two u (convertOf Two source target .bytes) .controller .edition ≡ 0) × (sheetReadOf Two u (convertOf Two source target .bytes) .controller .waits ≡ 0)
+unfolding stateOf
+zero u source target done =
+    let told = convert-told One Two source target done u in (ap (λ (r : SheetRead). r .controller .edition) told, ap (λ (r : SheetRead). r .controller .waits) told)
+
+-- what its reader refuses is not converted, and refused by the same number
+module _ (from to : Form) (t : Controller) (source target : List ℕ) (room : sheetSize to ≤ length target) where
+  same-number : ¬ (refusal (sheetReadGrounds from source) ≡ 0) → refusal (convertGrounds from to source (length target)) ≡ refusal (sheetReadGrounds from source)
+  same-number h = go (ltb (length source) (sheetSize from)) refl
+    where
+      go : (b : Bool) → ltb (length source) (sheetSize from) ≡ b → refusal (convertGrounds from to source (length target)) ≡ refusal (sheetReadGrounds from source)
+      go true e = convert-short from to source (length target) (short _ _ e) ∙ sym (read-short from source e)
+      go false e =
+          let here = ltb-false _ _ e in
+          let faults = read-faults from source here in
+          convert-fault from to source (length target) here room (λ z. h (faults ∙ z)) ∙ sym faults
+
+  as-reader : ¬ (sheetReadOf from t source .answer ≡ Done) → rewritten from to source target ≡ stored (sheetReadOf from t source .answer) target
+  as-reader not =
+      let h : ¬ (refusal (sheetReadGrounds from source) ≡ 0) = λ z. not (ap (λ (r : SheetRead). r .answer) (read-done from source t z)) in
+      convert-refused from to source target _ (same-number h) h
+      ∙ ap (λ (a : SheetAnswer). stored a target) (sym (ap (λ (r : SheetRead). r .answer) (read-refused from source t _ refl h)))
 
 pub sheet-forms : SheetForms
 sheet-forms =
     record {
       forward = forward;
+      zero = zero;
       back = back;
       notBack = not-back;
       good = good;
+      asReader = λ to t source target. as-reader (other to) to t source target;
       written = written;
       told = λ to t u source target done. told to t source target done u;
       sameBytes = same-bytes;
       oneOfTwo = one-of-two;
       twoOfOne = two-of-one;
-      changed = λ form t u bytes i v done here other. refused-with form u (changedAt form bytes i v) (faultAt form i) (byte-changed form bytes i v (free-of form t bytes done) here other) (fault-number form i);
+      changed = λ form t u bytes i v done here other. read-refused form (changedAt form bytes i v) u (faultAt form i) (byte-changed form bytes i v (free-of form t bytes done) here other) (fault-number form i);
       changedForOther = λ form t u bytes i v done accepted. other-refuses form bytes (free-of form t bytes done) (length bytes - sheetSize form + i) v (free-of (other form) u (changedAt form bytes i v) accepted);
     }

@@ -104,6 +104,5 @@ pub record EditionsDiffer : Type 0 where
   -- "Form 1 has no place for the edition: writing such a state is refusal 15", where ours, without wait states, is written;
   pub sheets : (s : Controller) (out : List ℕ) → valid (intel s) ≡ true → s .waits ≡ 0 → 56 ≤ length out
       → (sheetWriteOf One (intel s) out ≡ stored (sheet.Refused 15) out) × (sheetWriteOf One (ours s) out .answer ≡ sheet.Done)
-  -- in form 2 both are.
-  pub sheets2 : (s : Controller) (out : List ℕ) → valid (intel s) ≡ true → 58 ≤ length out
-      → (sheetWriteOf Two (intel s) out .answer ≡ sheet.Done) × (sheetWriteOf Two (ours s) out .answer ≡ sheet.Done)
+  -- in form 2 the answer is the same for both, whatever the state and the slice.
+  pub sheets2 : (s : Controller) (out : List ℕ) → reply (intel s) (SheetWriting Two out) ≡ reply (ours s) (SheetWriting Two out)

@@ -26,9 +26,13 @@ faultAt form i =
 
 -- A good sheet is one that its reader accepts; what state t or u a reader had plays no part.
 pub record SheetForms : Type 0 where
-  -- "Old sheets convert with edition 0 and waits 0.": every good sheet of form 1, into any slice that has room.
+  -- Every good sheet of form 1 is converted, into any slice that has room.
   pub forward : (t : Controller) (source target : List ℕ) → sheetReadOf One t source .answer ≡ Done → 58 ≤ length target
       → convertOf Two source target .answer ≡ Done
+  -- "Old sheets convert with edition 0 and waits 0."
+  pub zero : (u : Controller) (source target : List ℕ) → convertOf Two source target .answer ≡ Done
+      → (sheetReadOf Two u (convertOf Two source target .bytes) .controller .edition ≡ 0)
+      × (sheetReadOf Two u (convertOf Two source target .bytes) .controller .waits ≡ 0)
   -- "Converting back is allowed exactly when both are 0, else refusal 15, target untouched."
   pub back : (t : Controller) (source target : List ℕ) → sheetReadOf Two t source .answer ≡ Done → 56 ≤ length target
       → (sheetReadOf Two t source .controller .edition ≡ 0) × (sheetReadOf Two t source .controller .waits ≡ 0)
@@ -36,9 +40,14 @@ pub record SheetForms : Type 0 where
   pub notBack : (t : Controller) (source target : List ℕ) → sheetReadOf Two t source .answer ≡ Done → 56 ≤ length target
       → ¬ ((sheetReadOf Two t source .controller .edition ≡ 0) × (sheetReadOf Two t source .controller .waits ≡ 0))
       → convertOf One source target ≡ stored (Refused 15) target
-  -- Only good sheets are converted; the sheet that is written then is that of the state that the old one tells,
+  -- Only good sheets are converted;
   pub good : (to : Form) (t : Controller) (source target : List ℕ) → convertOf to source target .answer ≡ Done
       → sheetReadOf (other to) t source .answer ≡ Done
+  -- what its reader refuses, one of the other form among it (below), is refused by the same number, target untouched;
+  pub asReader : (to : Form) (t : Controller) (source target : List ℕ) → sheetSize to ≤ length target
+      → ¬ (sheetReadOf (other to) t source .answer ≡ Done)
+      → convertOf to source target ≡ stored (sheetReadOf (other to) t source .answer) target
+  -- the sheet that is written is that of the state that the old one tells,
   pub written : (to : Form) (t : Controller) (source target : List ℕ) → convertOf to source target .answer ≡ Done
       → convertOf to source target ≡ sheetWriteOf to (sheetReadOf (other to) t source .controller) target
   -- and tells it again.

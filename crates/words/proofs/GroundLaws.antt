@@ -2,7 +2,7 @@
 use Prim.Native.Nat.{ℕ, _<_}
 use mathlib.Core.Path.{_≡_, refl, sym, ap, _∙_}
 use mathlib.Core.Bool.{Bool, true, false}
-use mathlib.Core.List.{List, [], _∷_, _++_}
+use mathlib.Core.List.{List, [], _∷_}
 use native.Mathlib.Omega.{arith}
 use lib.Dec.{eqb}
 use borrow.Author.Tests.{ne-eqb}
@@ -32,12 +32,6 @@ firsts-over f (g ∷ gs) x = when-over f (g .holds) (λ e. refl) (λ e. firsts-o
 
 pub first-over : {A B : Type 0} (f : A → B) (gs : List (Ground A)) (x y : A) → y ≡ first gs x → first (overs f gs) (f x) ≡ f y
 first-over f gs x y e = firsts-over f gs x ∙ ap f (sym e)
-
--- grounds behind grounds
-pub first-behind : {A : Type 0} (gs hs : List (Ground A)) (x : A) → first (gs ++ hs) x ≡ first gs (first hs x)
-unfolding first
-first-behind [] hs x = refl
-first-behind (g ∷ gs) hs x = when-over (λ y. y) (g .holds) (λ e. refl) (λ e. first-behind gs hs x)
 
 -- Where each gives a number that isn't 0, what they give by themselves tells whether what stands behind them decides.
 abbrev pub Numbered : List (Ground ℕ) → Type 0
