@@ -15,8 +15,8 @@ use Rattle.am9517_sheet.specs.declared.forms.Form.{Form}
 use Rattle.am9517_sheet.specs.Bytes.{placed}
 use Rattle.am9517_sheet.specs.Form.{sheetSize}
 use Rattle.am9517_sheet.specs.Body.{exceeds}
-use Rattle.am9517_sheet.specs.Sheet.{sheetOf, sheetRefusalNumber, Stored, stored, sheetFaults}
-use Rattle.am9517_sheet.specs.Convert.{toldIn, convertGrounds, rewritten}
+use Rattle.am9517_sheet.specs.Sheet.{toldIn, sheetOf, sheetRefusalNumber, Stored, stored, sheetFaults}
+use Rattle.am9517_sheet.specs.Convert.{convertGrounds, rewritten}
 use Rattle.words.proofs.ChoiceLaws.{never}
 use Rattle.words.proofs.GroundLaws.{passed, first-else}
 use Rattle.am9517_sheet.proofs.SheetLaws.{put-too, put-done, put-refused}

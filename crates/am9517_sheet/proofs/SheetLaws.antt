@@ -33,6 +33,10 @@ number-said n = go (eqb n 0) refl
     go true e = sym (eqb-true _ _ e)
     go false e = refl
 
+-- so where it is Done nothing refuses
+pub none-refuses : (n : ℕ) → answerOf n ≡ Done → n ≡ 0
+none-refuses n done = sym (number-said n) ∙ ap sheetRefusalNumber done
+
 -- what gives what a definition gives says that definition's number, too
 pub put-too : (n : ℕ) (form : Form) (s : Controller) (out : List ℕ) (w : Stored) → w ≡ putUnless n form s out → (w ≡ putUnless n form s out) × (sheetRefusalNumber (w .answer) ≡ n)
 put-too n form s out w e = (e, ap (λ (v : Stored). sheetRefusalNumber (v .answer)) e ∙ number-said n)

@@ -21,11 +21,11 @@ use Rattle.am9517_sheet.specs.Bytes.{word, total, placed, last, OfBytes}
 use Rattle.am9517_sheet.specs.Form.{bodySize, sheetSize}
 use Rattle.am9517_sheet.specs.Body.{bodyOf, stateOf}
 use Rattle.am9517_sheet.specs.Trailer.{trailerOf, withTrailer}
-use Rattle.am9517_sheet.specs.Sheet.{sheetIn, sheetOf, sheetRefusalNumber, Stored, stored, sheetWriteOf, sheetReadGrounds, sheetReadOf}
+use Rattle.am9517_sheet.specs.Sheet.{sheetIn, sheetOf, Stored, stored, sheetWriteOf, sheetReadGrounds, sheetReadOf}
 use Rattle.am9517_sheet.proofs.BytesLaws.{length-placed, last-placed, placed-end, word-drop, cells, all-cells}
 use Rattle.am9517_sheet.proofs.TrailerLaws.{trailer-told, trailer-bytes}
 use Rattle.am9517_sheet.proofs.BodyLaws.{state-of-body, told-within, body-of-state}
-use Rattle.am9517_sheet.proofs.SheetLaws.{number-said, sheet-length, write-done, write-room, write-valid, write-within, write-free, refusedIn, read-done, read-valid, read-room, refused-by-sheet, sheet-accepted}
+use Rattle.am9517_sheet.proofs.SheetLaws.{none-refuses, sheet-length, write-done, write-room, write-valid, write-within, write-free, refusedIn, read-done, read-valid, read-room, refused-by-sheet, sheet-accepted}
 
 -- "The fresh sheet: all zero but byte 39 = 0Fh and 43 = 03h, then 01 00 30 00 12 00 44 4D."
 pub fresh-sheet : sheetOf One (fresh (numberOf Am9517A))
@@ -38,7 +38,7 @@ module _ (form : Form) where
   pub written-read : (s t : Controller) (out : List ℕ) → length (s .channels) ≡ 4 → sheetWriteOf form s out .answer ≡ Done
       → sheetReadOf form t (sheetWriteOf form s out .bytes) ≡ record { controller = s; answer = Done }
   written-read s t out channels done =
-      let free = sym (number-said _) ∙ ap sheetRefusalNumber done in
+      let free = none-refuses _ done in
       let room = write-room form s (length out) free in
       let within = write-within form s (length out) free in
       let at = length out - sheetSize form in
@@ -92,7 +92,7 @@ module _ (form : Form) where
   pub read-copied : (t : Controller) (bytes out : List ℕ) → OfBytes bytes → sheetReadOf form t bytes .answer ≡ Done → sheetSize form ≤ length out
       → sheetWriteOf form (sheetReadOf form t bytes .controller) out ≡ stored Done (take (length out - sheetSize form) out ++ last (sheetSize form) bytes)
   read-copied t bytes out byte done room =
-      let free : refusal (sheetReadGrounds form bytes) ≡ 0 = sym (number-said _) ∙ ap sheetRefusalNumber done in
+      let free : refusal (sheetReadGrounds form bytes) ≡ 0 = none-refuses _ done in
       let state = ap (λ (r : SheetRead). r .controller) (read-done form bytes t free) in
       let there = sheetIn form bytes in
       let fine = good-sheet bytes byte free in
@@ -104,5 +104,5 @@ module _ (form : Form) where
   pub read-written : (t : Controller) (bytes : List ℕ) → OfBytes bytes → sheetReadOf form t bytes .answer ≡ Done
       → sheetWriteOf form (sheetReadOf form t bytes .controller) bytes ≡ stored Done bytes
   read-written t bytes byte done =
-      let room = read-room form bytes (sym (number-said _) ∙ ap sheetRefusalNumber done) in
+      let room = read-room form bytes (none-refuses _ done) in
       read-copied t bytes bytes byte done room ∙ ap (stored Done) (take-append-drop (length bytes - sheetSize form) bytes)

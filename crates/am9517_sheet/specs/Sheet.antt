@@ -22,6 +22,10 @@ use Rattle.am9517_sheet.specs.Trailer.{withTrailer, trailerGrounds}
 abbrev pub sheetIn : Form → List ℕ → List ℕ
 sheetIn form bytes = last (sheetSize form) bytes
 
+-- the state that it tells, in its ranges or not
+abbrev pub toldIn : Form → List ℕ → Controller
+toldIn form bytes = stateOf form (sheetIn form bytes)
+
 -- body and trailer
 abbrev pub sheetOf : Form → Controller → List ℕ
 sheetOf form s = withTrailer form (bodyOf form s)
@@ -56,7 +60,7 @@ sheetWriteOf form s out = putUnless (refusal (sheetWriteGrounds form s (length o
 
 -- 10 to 14 are the "sheet faults, below": those of its bytes, and "14 range", a state out of its ranges
 abbrev pub sheetFaults : Form → List ℕ → List (Ground ℕ)
-sheetFaults form bytes = trailerGrounds form (sheetIn form bytes) ++ (14 if not (valid (stateOf form (sheetIn form bytes))) ∷ [])
+sheetFaults form bytes = trailerGrounds form (sheetIn form bytes) ++ (14 if not (valid (toldIn form bytes)) ∷ [])
 
 -- "sheet reading 9 to 14 in order". Document 02, A5: "Reading and writing form 2 keep 01's order, with 58 in refusal 9 and the edition's range
 -- under 14."
@@ -67,4 +71,4 @@ sheetReadGrounds form bytes = 9 if ltb (length bytes) (sheetSize form) ∷ sheet
 abbrev pub sheetReadOf : Form → Controller → List ℕ → SheetRead
 sheetReadOf form s bytes =
     let no = refusal (sheetReadGrounds form bytes) in
-    record { controller = when (eqb no 0) (stateOf form (sheetIn form bytes)) s; answer = answerOf no }
+    record { controller = when (eqb no 0) (toldIn form bytes) s; answer = answerOf no }

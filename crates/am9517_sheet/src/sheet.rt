@@ -13,8 +13,7 @@ ghost use lib.ListN.{length};
 ghost use Rattle.am9517.specs.Refusals.{refusal};
 ghost use Rattle.am9517_sheet.specs.Bytes.{placed};
 ghost use Rattle.am9517_sheet.specs.Form.{sheetSize};
-ghost use Rattle.am9517_sheet.specs.Body.{stateOf};
-ghost use Rattle.am9517_sheet.specs.Sheet.{sheetIn, sheetOf, sheetFaults};
+ghost use Rattle.am9517_sheet.specs.Sheet.{toldIn, sheetOf, sheetFaults};
 
 // The state that a sheet tells, in its ranges or not, and the number of its fault, 0 for none.
 pub struct SheetFound {
@@ -24,7 +23,7 @@ pub struct SheetFound {
 
 pub(crate) fn found(form: Form, bytes: &[u8]) -> SheetFound
     requires { ⌜ sheetSize form ≤ length (now bytes) ⌝ }
-    ensures { λ r. ⌜ r ≡ record { controller = stateOf form (sheetIn form (now (bytes .entry))); fault = refusal (sheetFaults form (now (bytes .entry))) } ⌝ }
+    ensures { λ r. ⌜ r ≡ record { controller = toldIn form (now (bytes .entry)); fault = refusal (sheetFaults form (now (bytes .entry))) } ⌝ }
 {
     let start = bytes.len() - sheet_size(form);
     let sheet = &bytes[start..];

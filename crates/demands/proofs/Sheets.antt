@@ -1,6 +1,6 @@
 -- The theorems about sheets, from the crate of sheets.
 use Prim.Native.Nat.{ℕ, _≤_}
-use mathlib.Core.Path.{_≡_, refl, sym, ap, _∙_}
+use mathlib.Core.Path.{_≡_, refl, ap}
 use mathlib.Core.List.{List}
 use native.Mathlib.Omega.{arith}
 use mathlib.Core.Bool.{true}
@@ -17,9 +17,9 @@ use Rattle.am9517_sheet.specs.declared.SheetAnswer.the-variants.{Done, Refused}
 use Rattle.am9517_sheet.specs.declared.SheetRead.{SheetRead}
 use Rattle.am9517_sheet.specs.Body.{exceeds, stateOf}
 use Rattle.am9517_sheet.specs.declared.forms.Form.the-variants.{One, Two}
-use Rattle.am9517_sheet.specs.Sheet.{sheetRefusalNumber, Stored, stored, sheetWriteOf, sheetReadOf}
+use Rattle.am9517_sheet.specs.Sheet.{Stored, stored, sheetWriteOf, sheetReadOf}
 use Rattle.demands.specs.Sheets.{RoundTrips}
-use Rattle.am9517_sheet.proofs.SheetLaws.{number-said, write-done, write-free, read-done, put-refused}
+use Rattle.am9517_sheet.proofs.SheetLaws.{none-refuses, write-done, write-free, read-done, put-refused}
 use Rattle.am9517_sheet.proofs.BodyLaws.{zero-within, other-exceeds}
 use Rattle.am9517_sheet.proofs.TripLaws.{written-read, read-copied, read-written, fresh-sheet}
 
@@ -36,11 +36,11 @@ other-refused s out v e room = put-refused _ One s out 15 (simp (v, le-ltb _ _ r
 
 read-edition : (t : Controller) (bytes : List ℕ) → sheetReadOf One t bytes .answer ≡ Done → sheetReadOf One t bytes .controller .edition ≡ numberOf Am9517A
 unfolding stateOf
-read-edition t bytes done = ap (λ (r : SheetRead). r .controller .edition) (read-done One bytes t (sym (number-said _) ∙ ap sheetRefusalNumber done))
+read-edition t bytes done = ap (λ (r : SheetRead). r .controller .edition) (read-done One bytes t (none-refuses _ done))
 
 read-waits : (t : Controller) (bytes : List ℕ) → sheetReadOf One t bytes .answer ≡ Done → sheetReadOf One t bytes .controller .waits ≡ 0
 unfolding stateOf
-read-waits t bytes done = ap (λ (r : SheetRead). r .controller .waits) (read-done One bytes t (sym (number-said _) ∙ ap sheetRefusalNumber done))
+read-waits t bytes done = ap (λ (r : SheetRead). r .controller .waits) (read-done One bytes t (none-refuses _ done))
 
 pub round-trips : RoundTrips
 round-trips =

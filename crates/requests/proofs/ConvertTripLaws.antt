@@ -11,10 +11,10 @@ use Rattle.am9517_sheet.specs.declared.forms.Form.{Form}
 use Rattle.am9517_sheet.specs.Bytes.{last, OfBytes}
 use Rattle.am9517_sheet.specs.Form.{sheetSize}
 use Rattle.am9517_sheet.specs.Body.{exceeds, stateOf}
-use Rattle.am9517_sheet.specs.Sheet.{sheetRefusalNumber, Stored, stored, sheetWriteOf, sheetReadGrounds, sheetReadOf}
-use Rattle.am9517_sheet.specs.Convert.{toldIn, convertGrounds, rewritten}
+use Rattle.am9517_sheet.specs.Sheet.{toldIn, Stored, stored, sheetWriteOf, sheetReadGrounds, sheetReadOf}
+use Rattle.am9517_sheet.specs.Convert.{convertGrounds, rewritten}
 use Rattle.am9517_sheet.proofs.BodyLaws.{told-within}
-use Rattle.am9517_sheet.proofs.SheetLaws.{number-said, write-done, write-free, read-done, read-room, read-faults, read-valid}
+use Rattle.am9517_sheet.proofs.SheetLaws.{none-refuses, write-done, write-free, read-done, read-room, read-faults, read-valid}
 use Rattle.am9517_sheet.proofs.TripLaws.{written-read, read-copied}
 use Rattle.am9517_sheet.proofs.ConvertLaws.{convert-given, convert-done, convert-free}
 
@@ -24,7 +24,7 @@ four-told form sheet = refl
 
 module _ (from to : Form) (source out : List ℕ) (done : rewritten from to source out .answer ≡ Done) where
   free : refusal (convertGrounds from to source (length out)) ≡ 0
-  free = sym (number-said _) ∙ ap sheetRefusalNumber done
+  free = none-refuses _ done
 
   -- the source is one that its own form's reader accepts
   pub source-read : refusal (sheetReadGrounds from source) ≡ 0
@@ -49,7 +49,7 @@ module _ (from to : Form) (source out : List ℕ) (done : rewritten from to sour
       let mid = rewritten from to source out .bytes in
       let t = toldIn from source in
       let there = convert-told t in
-      let fine : refusal (sheetReadGrounds to mid) ≡ 0 = sym (number-said _) ∙ ap (λ (r : SheetRead). sheetRefusalNumber (r .answer)) there in
+      let fine : refusal (sheetReadGrounds to mid) ≡ 0 = none-refuses _ (ap (λ (r : SheetRead). r .answer) there) in
       let here = read-room to mid fine in
       let state : toldIn to mid ≡ t = ap (λ (r : SheetRead). r .controller) (sym (read-done to mid t fine) ∙ there) in
       let read = read-done from source t source-read in

@@ -2,7 +2,7 @@
 use Prim.Native.Nat.{ℕ, _+_, _-_, _≤_, _<_}
 use mathlib.Core.Path.{_≡_, refl, sym, ap, _∙_, subst}
 use mathlib.Core.Bool.{Bool, true, false, _||_}
-use mathlib.Core.List.{List, _++_}
+use mathlib.Core.List.{List, [], _∷_, _++_}
 use native.Mathlib.Omega.{arith}
 use lib.Dec.{ltb}
 use lib.ListN.{length, take}
@@ -16,15 +16,18 @@ use Rattle.am9517_sheet.specs.declared.SheetAnswer.the-variants.{Done, Refused}
 use Rattle.am9517_sheet.specs.declared.SheetRead.{SheetRead}
 use Rattle.am9517_sheet.specs.declared.forms.Form.{Form}
 use Rattle.am9517_sheet.specs.declared.forms.Form.the-variants.{One, Two}
-use Rattle.am9517_sheet.specs.Bytes.{last, OfBytes}
+use Rattle.am9517_sheet.specs.Bytes.{wordBytes, total, last, OfBytes}
 use Rattle.am9517_sheet.specs.Form.{other, sheetSize}
-use Rattle.am9517_sheet.specs.Body.{exceeds, stateOf}
-use Rattle.am9517_sheet.specs.Sheet.{sheetRefusalNumber, Stored, stored, sheetWriteOf, sheetFaults, sheetReadGrounds, sheetReadOf}
-use Rattle.am9517_sheet.specs.Convert.{toldIn, convertGrounds, rewritten, convertOf}
+use Rattle.am9517_sheet.specs.Body.{bodyOf, exceeds, stateOf}
+use Rattle.am9517_sheet.specs.Sheet.{toldIn, sheetOf, Stored, stored, sheetWriteOf, sheetFaults, sheetReadGrounds, sheetReadOf}
+use Rattle.am9517_sheet.specs.Convert.{convertGrounds, rewritten, convertOf}
+use Rattle.c_am9517.specs.Host.{loadOf}
+use Rattle.demands.specs.Operations.{scene}
+use Rattle.demands.specs.Calls.{CLoad, leftBy, does}
 use Rattle.requests.specs.Forms.{changedAt, faultAt, SheetForms}
 use Rattle.words.proofs.ChoiceLaws.{when-both, when-miss}
 use Rattle.am9517_sheet.proofs.BodyLaws.{zero-within, other-exceeds}
-use Rattle.am9517_sheet.proofs.SheetLaws.{number-said, read-done, read-refused, read-room, read-faults}
+use Rattle.am9517_sheet.proofs.SheetLaws.{number-said, none-refuses, read-done, read-refused, read-room, read-faults}
 use Rattle.am9517_sheet.proofs.ConvertLaws.{convert-short, convert-fault, convert-free, convert-over, convert-done, convert-refused}
 use Rattle.requests.proofs.ConvertTripLaws.{source-read, convert-writes, convert-told, convert-back}
 use Rattle.requests.proofs.OtherFormLaws.{other-answers, other-refuses}
@@ -32,7 +35,7 @@ use Rattle.requests.proofs.ChangedLaws.{byte-changed}
 
 -- a reader's answer and the number of its refusal
 free-of : (form : Form) (t : Controller) (bytes : List ℕ) → sheetReadOf form t bytes .answer ≡ Done → refusal (sheetReadGrounds form bytes) ≡ 0
-free-of form t bytes done = sym (number-said _) ∙ ap sheetRefusalNumber done
+free-of form t bytes done = none-refuses _ done
 
 state-of : (form : Form) (t : Controller) (bytes : List ℕ) → sheetReadOf form t bytes .answer ≡ Done → sheetReadOf form t bytes .controller ≡ toldIn form bytes
 state-of form t bytes done = ap (λ (r : SheetRead). r .controller) (read-done form bytes t (free-of form t bytes done))
@@ -113,6 +116,21 @@ one-of-two t u bytes done =
 two-of-one : (t u : Controller) (bytes : List ℕ) → sheetReadOf One t bytes .answer ≡ Done → sheetReadOf Two u bytes ≡ record { controller = u; answer = Refused (when (ltb (length bytes) 58) 9 11) }
 two-of-one t u bytes done = read-refused Two bytes u _ (other-answers One bytes (free-of One t bytes done)) (either _ 9 11 (number 9 (omega arith)) (number 11 (omega arith)))
 
+never-misread : (form : Form) (s t : Controller) (bytes : List ℕ) → does s (CLoad form bytes) .refusal ≡ 0
+    → does t (CLoad (other form) bytes) ≡ record { refusal = when (ltb (length bytes) (sheetSize (other form))) 9 11; beside = 0 ∷ []; leaves = scene t [] [] [] }
+never-misread form s t bytes loaded =
+    let answered = other-answers form bytes (sym (number-said _) ∙ loaded) in
+    ap (λ (r : SheetRead). leftBy (loadOf r)) (read-refused (other form) bytes t _ answered (either _ 9 11 (number 9 (omega arith)) (number 11 (omega arith))))
+
+-- a sheet of form 2, byte by byte
+laid-out : (s : Controller) → sheetOf Two s ≡ s .edition ∷ s .waits ∷ bodyOf One s ++ (0x02 ∷ 0x00 ∷ 0x32 ∷ 0x00 ∷ wordBytes (s .edition + (s .waits + total (bodyOf One s))) ++ (0x44 ∷ 0x4D ∷ []))
+unfolding bodyOf total
+laid-out s = refl
+
+sized : (s : Controller) → (length (bodyOf One s) ≡ 48) × (length (sheetOf Two s) ≡ 58)
+unfolding bodyOf
+sized s = (refl, refl)
+
 -- "Old sheets convert with edition 0 and waits 0."
 zero : (u : Controller) (source target : List ℕ) → convertOf Two source target .answer ≡ Done
     → (sheetReadOf Two u (convertOf Two source target .bytes) .controller .edition ≡ 0) × (sheetReadOf Two u (convertOf Two source target .bytes) .controller .waits ≡ 0)
@@ -141,6 +159,8 @@ module _ (from to : Form) (t : Controller) (source target : List ℕ) (room : sh
 pub sheet-forms : SheetForms
 sheet-forms =
     record {
+      laidOut = laid-out;
+      sized = sized;
       forward = forward;
       zero = zero;
       back = back;
@@ -152,6 +172,7 @@ sheet-forms =
       sameBytes = same-bytes;
       oneOfTwo = one-of-two;
       twoOfOne = two-of-one;
+      neverMisread = never-misread;
       changed = λ form t u bytes i v done here other. read-refused form (changedAt form bytes i v) u (faultAt form i) (byte-changed form bytes i v (free-of form t bytes done) here other) (fault-number form i);
       changedForOther = λ form t u bytes i v done accepted. other-refuses form bytes (free-of form t bytes done) (length bytes - sheetSize form + i) v (free-of (other form) u (changedAt form bytes i v) accepted);
     }

@@ -1,7 +1,7 @@
 -- Document 02, A5: sheets of form 2, and back.
 use Prim.Native.Nat.{ℕ, _+_, _-_, _≤_, _<_}
 use mathlib.Core.Path.{_≡_}
-use mathlib.Core.List.{List, _++_}
+use mathlib.Core.List.{List, [], _∷_, _++_}
 use lib.Dec.{ltb}
 use lib.ListN.{length, getD, set, take}
 use Rattle.words.specs.Choice.{when}
@@ -9,10 +9,13 @@ use Rattle.am9517.specs.declared.Controller.{Controller}
 use Rattle.am9517_sheet.specs.declared.SheetAnswer.the-variants.{Done, Refused}
 use Rattle.am9517_sheet.specs.declared.forms.Form.{Form}
 use Rattle.am9517_sheet.specs.declared.forms.Form.the-variants.{One, Two}
-use Rattle.am9517_sheet.specs.Bytes.{last, OfBytes}
+use Rattle.am9517_sheet.specs.Bytes.{wordBytes, total, last, OfBytes}
 use Rattle.am9517_sheet.specs.Form.{other, bodySize, sheetSize}
-use Rattle.am9517_sheet.specs.Sheet.{stored, sheetWriteOf, sheetReadOf}
+use Rattle.am9517_sheet.specs.Body.{bodyOf}
+use Rattle.am9517_sheet.specs.Sheet.{sheetOf, stored, sheetWriteOf, sheetReadOf}
 use Rattle.am9517_sheet.specs.Convert.{convertOf}
+use Rattle.demands.specs.Operations.{scene}
+use Rattle.demands.specs.Calls.{CLoad, does}
 
 -- these bytes with v in place i of the sheet at their end
 abbrev pub changedAt : Form → List ℕ → ℕ → ℕ → List ℕ
@@ -26,6 +29,12 @@ faultAt form i =
 
 -- A good sheet is one that its reader accepts; what state t or u a reader had plays no part.
 pub record SheetForms : Type 0 where
+  -- "Form 2 has a 50-byte body: edition (0 or 1), waits, then the 48 bytes of form 1; the trailer says form 2 and distance 50, so 58 bytes.": byte by
+  -- byte, the sum being that of the 50.
+  pub laidOut : (s : Controller) → sheetOf Two s
+      ≡ s .edition ∷ s .waits ∷ bodyOf One s
+      ++ (0x02 ∷ 0x00 ∷ 0x32 ∷ 0x00 ∷ wordBytes (s .edition + (s .waits + total (bodyOf One s))) ++ (0x44 ∷ 0x4D ∷ []))
+  pub sized : (s : Controller) → (length (bodyOf One s) ≡ 48) × (length (sheetOf Two s) ≡ 58)
   -- Every good sheet of form 1 is converted, into any slice that has room.
   pub forward : (t : Controller) (source target : List ℕ) → sheetReadOf One t source .answer ≡ Done → 58 ≤ length target
       → convertOf Two source target .answer ≡ Done
@@ -65,6 +74,10 @@ pub record SheetForms : Type 0 where
   -- A form 2 reader answers 11 to a form 1 sheet in 58 bytes or more, 9 in fewer.
   pub twoOfOne : (t u : Controller) (bytes : List ℕ) → sheetReadOf One t bytes .answer ≡ Done
       → sheetReadOf Two u bytes ≡ record { controller = u; answer = Refused (when (ltb (length bytes) 58) 9 11) }
+  -- So do the C library's am9517_load and am9517_load2: a sheet of the other form is never misread, and the chip stays.
+  pub neverMisread : (form : Form) (s t : Controller) (bytes : List ℕ) → does s (CLoad form bytes) .refusal ≡ 0
+      → does t (CLoad (other form) bytes)
+      ≡ record { refusal = when (ltb (length bytes) (sheetSize (other form))) 9 11; beside = 0 ∷ []; leaves = scene t [] [] [] }
   -- Any one changed byte of a good sheet is found: by its own form's reader, which says where,
   pub changed : (form : Form) (t u : Controller) (bytes : List ℕ) (i v : ℕ) → sheetReadOf form t bytes .answer ≡ Done → i < sheetSize form
       → ¬ (v ≡ getD bytes (length bytes - sheetSize form + i) 0)

@@ -6,8 +6,7 @@ use Rattle.am9517_sheet.specs.declared.forms.Form.{Form}
 use mathlib.Core.Path.{_≡_, refl, sym, ap, _∙_}
 use Rattle.am9517.specs.Refusals.{refusal}
 use Rattle.am9517_sheet.specs.Form.{other, sheetSize}
-use Rattle.am9517_sheet.specs.Sheet.{sheetFaults, stored}
-use Rattle.am9517_sheet.specs.Convert.{toldIn}
+use Rattle.am9517_sheet.specs.Sheet.{toldIn, sheetFaults, stored}
 use native.Mathlib.Omega.{arith}
 use lib.ListN.{length}
 use Rattle.am9517_sheet.specs.declared.SheetAnswer.the-variants.{Done}
