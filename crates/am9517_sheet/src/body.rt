@@ -13,7 +13,7 @@ ghost use Prim.Native.Nat.{_+_, _≤_};
 ghost use lib.ListN.{length};
 ghost use mathlib.Core.List.{map};
 ghost use Rattle.am9517.specs.Fields.{field, Edition, Waits};
-ghost use Rattle.am9517_sheet.specs.declared.forms.Form.the-variants.{One};
+ghost use Rattle.am9517_sheet.specs.declared.forms.Form.the-variants.{Two};
 ghost use Rattle.am9517_sheet.specs.Bytes.{placed};
 ghost use Rattle.am9517_sheet.specs.Form.{front, behind, channelsAt, channelPlace, bodySize};
 ghost use Rattle.am9517_sheet.specs.Body.{channelBytes, channelsBytes, channelAt, bodyOf, exceeds, fieldIn, stateOf};
@@ -94,11 +94,12 @@ pub(crate) fn store_body(form: Form, c: Controller, out: &mut [u8], start: usize
     store(out, at, &fields);
 }
 
+// The body of form 2: every field of the state.
 pub fn body_of(c: Controller) -> [u8; BODY]
-    ensures { λ r. ⌜ r ≡ bodyOf One c ⌝ }
+    ensures { λ r. ⌜ r ≡ bodyOf Two c ⌝ }
 {
     let mut body = [0; BODY];
-    store_body(Form::One, c, &mut body, 0);
+    store_body(Form::Two, c, &mut body, 0);
     body
 }
 
@@ -179,9 +180,9 @@ pub(crate) fn state_in(form: Form, b: &[u8]) -> Controller
     }
 }
 
-// No range is asked: a state out of its ranges is told too.
+// The state that it tells. No range is asked: a state out of its ranges is told too.
 pub fn state_of(body: [u8; BODY]) -> Controller
-    ensures { λ r. ⌜ r ≡ stateOf One body ⌝ }
+    ensures { λ r. ⌜ r ≡ stateOf Two body ⌝ }
 {
-    state_in(Form::One, &body)
+    state_in(Form::Two, &body)
 }

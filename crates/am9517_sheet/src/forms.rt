@@ -2,8 +2,11 @@
 ghost use mathlib.Core.Path.{_≡_};
 ghost use Rattle.am9517_sheet.specs.Form.{other, number, channelsAt, bodySize, sheetSize};
 
-// The bytes of a body of form 1, which stand in a body of either form.
-pub const BODY: usize = 48;
+// The bytes of a body from its channels on, in either form.
+const CORE: usize = 48;
+
+// The bytes of a body of form 2, in which every field has its place.
+pub const BODY: usize = 50;
 
 pub enum Form {
     One,
@@ -43,7 +46,7 @@ pub(crate) fn channels_at(form: Form) -> usize
 pub(crate) fn body_size(form: Form) -> usize
     ensures { λ r. ⌜ r ≡ bodySize form ⌝ }
 {
-    channels_at(form) + BODY
+    channels_at(form) + CORE
 }
 
 pub(crate) fn sheet_size(form: Form) -> usize

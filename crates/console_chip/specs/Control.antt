@@ -1,15 +1,14 @@
 -- What each command on the controller answers.
-use Prim.Native.Nat.{ℕ, _+_, _*_}
+use Prim.Native.Nat.{ℕ, _*_}
 use mathlib.Core.Bool.{Bool, false}
-use mathlib.Core.List.{List, [], _∷_, _++_}
+use mathlib.Core.List.{List, _∷_, _++_}
 use lib.Dec.{eqb}
-use lib.ListN.{length, getD, take, drop}
+use lib.ListN.{length}
 use Rattle.words.specs.Choice.{when, _and_}
-use Rattle.am9517.specs.Fields.{put, Edition, Waits}
 use Rattle.am9517.specs.State.{fresh}
 use Rattle.am9517.specs.Answers.{writeOf, readOf, pinsOf, waitsOf}
 use Rattle.am9517.specs.declared.Controller.{Controller}
-use Rattle.am9517_sheet.specs.declared.forms.Form.the-variants.{One}
+use Rattle.am9517_sheet.specs.declared.forms.Form.the-variants.{One, Two}
 use Rattle.am9517_sheet.specs.Form.{bodySize}
 use Rattle.am9517_sheet.specs.Body.{bodyOf, stateOf}
 use Rattle.console_text.specs.Text.{codes}
@@ -20,9 +19,9 @@ use Rattle.console_chip.specs.Answers.{Reply, reply, errorReply, outcome
 abbrev pub stateText : Controller → List ℕ
 stateText c = codes "state " ++ hexText (bodyOf One c)
 
--- "100 digits: edition, waits (00 before A3), the 48 body bytes; no range check"
+-- "100 digits: edition, waits (00 before A3), the 48 body bytes; no range check": the body of form 2
 abbrev pub fullText : Controller → List ℕ
-fullText c = codes "full " ++ (hexText (c .edition ∷ c .waits ∷ []) ++ hexText (bodyOf One c))
+fullText c = codes "full " ++ hexText (bodyOf Two c)
 
 -- "a fresh state of edition E, 0 (also when E is missing) Am9517A or 1 Intel; E over 1 is `error`"
 abbrev pub freshReply : Controller → List ℕ → Reply
@@ -48,16 +47,10 @@ waitsReply c states = numbered (numberOf 255 states) (λ (n : ℕ). outcomeReply
 unfoldable pub saysBytes : List ℕ → ℕ → Bool
 saysBytes digits n = isBytes digits and eqb (length digits) (2 * n)
 
--- the state of this edition, of these wait states, and of the body that these digits say
-abbrev pub stateTold : ℕ → ℕ → List ℕ → Controller
-stateTold edition waits digits = put (put (stateOf One (bytesIn digits)) Edition edition) Waits waits
-
 -- "`state HEX` sets the 48 and leaves edition and waits"
 abbrev pub stateReply : Controller → List ℕ → Reply
-stateReply c digits = when (saysBytes digits (bodySize One)) (reply (stateTold (c .edition) (c .waits) digits) okText) (errorReply c)
+stateReply c digits = when (saysBytes digits (bodySize One)) (reply (stateOf Two (c .edition ∷ c .waits ∷ bytesIn digits)) okText) (errorReply c)
 
--- "the state is now these 50 bytes, taken with no range check": edition, waits, and the body's
+-- "the state is now these 50 bytes, taken with no range check"
 abbrev pub fullReply : Controller → List ℕ → Reply
-fullReply c digits =
-    let front = bytesIn (take 4 digits) in
-    when (saysBytes digits (2 + bodySize One)) (reply (stateTold (getD front 0 0) (getD front 1 0) (drop 4 digits)) okText) (errorReply c)
+fullReply c digits = when (saysBytes digits (bodySize Two)) (reply (stateOf Two (bytesIn digits)) okText) (errorReply c)

@@ -12,19 +12,28 @@ use console_text::hex::is_bytes;
 use console_text::hex::store;
 use console_text::numbers::Number;
 use console_text::numbers::number_of;
+use console_text::page::byte;
 use console_text::page::hex;
 use console_text::page::text;
 ghost use mathlib.Core.Path.{_≡_};
 ghost use Prim.Native.Nat.{_*_, _≤_};
-ghost use lib.ListN.{length, take};
+ghost use mathlib.Core.List.{_∷_};
+ghost use lib.ListN.{length};
 ghost use Rattle.am9517.specs.Editions.{numberOf};
 ghost use Rattle.am9517.specs.State.{fresh};
 ghost use Rattle.am9517.specs.Answers.{resetOf, grantOf};
+ghost use Rattle.am9517_sheet.specs.declared.forms.Form.the-variants.{Two};
+ghost use Rattle.am9517_sheet.specs.Body.{stateOf};
 ghost use Rattle.console_text.specs.Text.{page, put};
 ghost use Rattle.console_text.specs.Hex.{bytesIn};
 ghost use Rattle.console_chip.specs.Answers.{okText, reply, outcomeReply, said, saying};
 ghost use mathlib.Core.Bool.{true, false};
-ghost use Rattle.console_chip.specs.Control.{stateText, fullText, freshReply, saysBytes, stateTold, fullReply, writeReply, readReply, pinsReply, stateReply, waitsReply};
+ghost use Rattle.console_chip.specs.Control.{stateText, fullText, freshReply, saysBytes, fullReply, writeReply, readReply, pinsReply, stateReply, waitsReply};
+
+// The edition and the waits, which a body of form 2 has before the bytes of form 1; and how many those are.
+const FRONT: usize = 2;
+
+const STATE: usize = BODY - FRONT;
 
 // The largest register number, limit or count that a command takes.
 const WORD: u32 = 0xffff_ffff;
@@ -34,17 +43,15 @@ pub fn state(c: Controller, out: &mut [u8], at: usize) -> usize
 {
     let body = body_of(c);
     let next = text(out, at, b"state ");
-    hex(out, next, &body)
+    hex(out, next, &body[FRONT..BODY])
 }
 
-// The state in full: edition, waits and body.
+// The state in full.
 pub fn full(c: Controller, out: &mut [u8], at: usize) -> usize
     ensures { λ r. ⌜ page (now (out .exit)) r ≡ put (page (now (out .entry)) at) (fullText c) ⌝ }
 {
     let body = body_of(c);
-    let front = [c.edition, c.waits];
     let next = text(out, at, b"full ");
-    let next = hex(out, next, &front);
     hex(out, next, &body)
 }
 
@@ -55,47 +62,44 @@ fn says_bytes(digits: &[u8], n: usize) -> bool
     is_bytes(digits) & (digits.len() == 2 * n)
 }
 
-// The state of this edition and of these wait states whose body these digits say.
+// The state that a body of form 1 tells, with this edition and these wait states before it.
 fn state_told(edition: u8, waits: u8, digits: &[u8]) -> Controller
     requires { ⌜ length (now digits) ≡ 2 * 48 ⌝ }
-    ensures { λ r. ⌜ r ≡ stateTold edition waits (now (digits .entry)) ⌝ }
+    ensures { λ r. ⌜ r ≡ stateOf Two (edition ∷ waits ∷ bytesIn (now (digits .entry))) ⌝ }
 {
     let mut body = [0u8; BODY];
-    store(&mut body, 0, digits);
-    let mut next = state_of(body);
-    next.edition = edition;
-    next.waits = waits;
-    next
+    let next = byte(&mut body, 0, edition);
+    let next = byte(&mut body, next, waits);
+    store(&mut body, next, digits);
+    state_of(body)
 }
 
 pub fn set_state(c: Controller, digits: &[u8], out: &mut [u8], at: usize) -> Spoken
     ensures { λ r. ⌜ said r (now (out .exit)) ≡ saying (page (now (out .entry)) at) (stateReply c (now (digits .entry))) ⌝ }
 {
-    if !says_bytes(digits, BODY) {
+    if !says_bytes(digits, STATE) {
         return fault(out, at, c);
     }
     let next = state_told(c.edition, c.waits, digits);
     agree(out, at, next)
 }
 
-// The two bytes before a body that these digits say.
-fn front_told(digits: &[u8]) -> [u8; 2]
-    requires { ⌜ 4 ≤ length (now digits) ⌝ }
-    ensures { λ r. ⌜ r ≡ bytesIn (take 4 (now (digits .entry))) ⌝ }
+fn full_told(digits: &[u8]) -> Controller
+    requires { ⌜ length (now digits) ≡ 2 * 50 ⌝ }
+    ensures { λ r. ⌜ r ≡ stateOf Two (bytesIn (now (digits .entry))) ⌝ }
 {
-    let mut front = [0u8; 2];
-    store(&mut front, 0, &digits[0..4]);
-    front
+    let mut body = [0u8; BODY];
+    store(&mut body, 0, digits);
+    state_of(body)
 }
 
 pub fn set_full(c: Controller, digits: &[u8], out: &mut [u8], at: usize) -> Spoken
     ensures { λ r. ⌜ said r (now (out .exit)) ≡ saying (page (now (out .entry)) at) (fullReply c (now (digits .entry))) ⌝ }
 {
-    if !says_bytes(digits, 2 + BODY) {
+    if !says_bytes(digits, BODY) {
         return fault(out, at, c);
     }
-    let front = front_told(digits);
-    let next = state_told(front[0], front[1], &digits[4..]);
+    let next = full_told(digits);
     agree(out, at, next)
 }
 

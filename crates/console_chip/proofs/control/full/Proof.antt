@@ -5,10 +5,9 @@ use Rattle.console_chip.proofs.control.full.Tie as tie
 
 returns : tie.Need-returns
 returns c =
-    let at-hex2 = c .before .before in let at-hex = at-hex2 .before .before .before .before .before in
-    let at-text = at-hex .before .before .before .before .before in let at-body-of = at-text .before .before .before in
-    rw (at-body-of .body-of .ensures) at (put-both _ _ _ _ _ (at-text .text .ensures) (put-both _ _ _ _ _ (at-hex .hex .ensures) (at-hex2 .hex2 .ensures)))
+    let at-hex = c .before .before in let at-text = at-hex .before .before .before .before .before in
+    let at-body-of = at-text .before .before .before in
+    rw (at-body-of .body-of .ensures) at (put-both _ _ _ _ _ (at-text .text .ensures) (at-hex .hex .ensures))
 
 pub full-spec : {M : Type 1} → statement M
-full-spec = tie.close (tie.spec (search needs) (search needs) (search needs) (search needs) (search needs) (search needs) (search needs)
-    (search needs) returns)
+full-spec = tie.close (tie.spec (search needs) (search needs) (search needs) (search needs) (search needs) (search needs) returns)
