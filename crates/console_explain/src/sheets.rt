@@ -37,6 +37,13 @@ fn says(digits: &[u8], form: &[u8]) -> bool {
 // Whether it is a sheet of the other form.
 fn of_form(out: &mut [u8], at: usize, digits: &[u8]) -> usize {
     if says(digits, b"0200") {
+        if digits.len() < SHEET2 {
+            return text(
+                out,
+                at,
+                b"    the sheet says form 2, which has 58 bytes: here are fewer\n",
+            );
+        }
         return text(
             out,
             at,
@@ -51,6 +58,30 @@ fn of_form(out: &mut [u8], at: usize, digits: &[u8]) -> usize {
         );
     }
     at
+}
+
+// Whether it is an old one, which is too short for what reads form 2.
+fn of_old(out: &mut [u8], at: usize, name: &[u8], digits: &[u8]) -> usize {
+    if (same(name, b"load2") | same(name, b"back")) & says(digits, b"0100") {
+        return of_form(out, at, digits);
+    }
+    at
+}
+
+// Whether it is its edition that is out of range.
+fn of_range(out: &mut [u8], at: usize, digits: &[u8]) -> usize {
+    if digits.len() < SHEET2 {
+        return at;
+    }
+    let from = digits.len() - SHEET2;
+    let to = from + 2;
+    let edition = &digits[from..to];
+    if !says(digits, b"0200") | same(edition, b"00") | same(edition, b"01") {
+        return at;
+    }
+    let next = text(out, at, b"    the sheet has edition 0x");
+    let next = text(out, next, edition);
+    text(out, next, b": 0 is Am9517A, 1 is Intel 8237A\n")
 }
 
 // The edition and the waits of a sheet of form 2, as they stand in it.
@@ -98,7 +129,7 @@ fn of_state(out: &mut [u8], at: usize, c: Controller) -> usize {
     of_waits(out, next, c.waits)
 }
 
-// Of refusals 9, 11 and 15; `line` is the command's.
+// Of refusals 9, 11, 14 and 15; `line` is the command's.
 pub(crate) fn of_sheet(
     out: &mut [u8],
     at: usize,
@@ -113,10 +144,14 @@ pub(crate) fn of_sheet(
     let from = digits.from;
     let to = digits.to;
     if same(number, b"9") {
-        return of_size(out, at, &line[name_from..name_to]);
+        let next = of_size(out, at, &line[name_from..name_to]);
+        return of_old(out, next, &line[name_from..name_to], &line[from..to]);
     }
     if same(number, b"11") {
         return of_form(out, at, &line[from..to]);
+    }
+    if same(number, b"14") {
+        return of_range(out, at, &line[from..to]);
     }
     if same(&line[name_from..name_to], b"back") {
         return of_front(out, at, &line[from..to]);
