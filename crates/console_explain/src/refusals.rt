@@ -91,8 +91,8 @@ fn cause(
     if same(number, b"1") {
         return broken(out, at, c.edition);
     }
-    let of_bytes = same(number, b"9") | same(number, b"11") | same(number, b"14");
-    if of_bytes | same(number, b"15") {
+    let about_sheets = same(number, b"9") | same(number, b"11") | same(number, b"14");
+    if about_sheets | same(number, b"15") {
         return of_sheet(out, at, c, line, number);
     }
     if same(number, b"6") {

@@ -5,8 +5,10 @@ use console_text::line::same;
 use console_text::page::decimal;
 use console_text::page::text;
 
-// The digits of a trailer, and of a whole sheet of form 2.
+// The digits of a trailer, and of a whole sheet of each form.
 const TRAILER: usize = 16;
+
+const SHEET1: usize = 112;
 
 const SHEET2: usize = 116;
 
@@ -60,9 +62,10 @@ fn of_form(out: &mut [u8], at: usize, digits: &[u8]) -> usize {
     at
 }
 
-// Whether it is an old one, which is too short for what reads form 2.
+// Whether it is an old one, given to what reads form 2.
 fn of_old(out: &mut [u8], at: usize, name: &[u8], digits: &[u8]) -> usize {
-    if (same(name, b"load2") | same(name, b"back")) & says(digits, b"0100") {
+    let is_old = (digits.len() >= SHEET1) & says(digits, b"0100");
+    if is_old & (same(name, b"load2") | same(name, b"back")) {
         return of_form(out, at, digits);
     }
     at

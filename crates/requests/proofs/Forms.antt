@@ -26,8 +26,9 @@ use Rattle.demands.specs.Operations.{scene}
 use Rattle.demands.specs.Calls.{CLoad, leftBy, does}
 use Rattle.requests.specs.Forms.{changedAt, faultAt, SheetForms}
 use Rattle.words.proofs.ChoiceLaws.{when-both, when-miss}
+use Rattle.am9517_sheet.proofs.BytesLaws.{placed-end}
 use Rattle.am9517_sheet.proofs.BodyLaws.{zero-within, other-exceeds}
-use Rattle.am9517_sheet.proofs.SheetLaws.{number-said, none-refuses, read-done, read-refused, read-room, read-faults}
+use Rattle.am9517_sheet.proofs.SheetLaws.{number-said, none-refuses, sheet-length, write-done, write-room, read-done, read-refused, read-room, read-faults}
 use Rattle.am9517_sheet.proofs.ConvertLaws.{convert-short, convert-fault, convert-free, convert-over, convert-done, convert-refused}
 use Rattle.requests.proofs.ConvertTripLaws.{source-read, convert-writes, convert-told, convert-back}
 use Rattle.requests.proofs.OtherFormLaws.{other-answers, other-refuses}
@@ -131,6 +132,12 @@ sized : (s : Controller) → (length (bodyOf One s) ≡ 48) × (length (sheetOf 
 unfolding bodyOf
 sized s = (refl, refl)
 
+at-the-end : (form : Form) (s : Controller) (out : List ℕ) → sheetWriteOf form s out .answer ≡ Done
+    → sheetWriteOf form s out .bytes ≡ take (length out - sheetSize form) out ++ sheetOf form s
+at-the-end form s out done =
+    let free = none-refuses _ done in
+    ap (λ (w : Stored). w .bytes) (write-done form s out free) ∙ placed-end out (sheetOf form s) (sheetSize form) (sheet-length form s) (write-room form s (length out) free)
+
 -- "Old sheets convert with edition 0 and waits 0."
 zero : (u : Controller) (source target : List ℕ) → convertOf Two source target .answer ≡ Done
     → (sheetReadOf Two u (convertOf Two source target .bytes) .controller .edition ≡ 0) × (sheetReadOf Two u (convertOf Two source target .bytes) .controller .waits ≡ 0)
@@ -156,11 +163,20 @@ module _ (from to : Form) (t : Controller) (source target : List ℕ) (room : sh
       convert-refused from to source target _ (same-number h) h
       ∙ ap (λ (a : SheetAnswer). stored a target) (sym (ap (λ (r : SheetRead). r .answer) (read-refused from source t _ refl h)))
 
+-- a good sheet of the form that is to be written is none of the other
+never-converted : (to : Form) (t : Controller) (source target : List ℕ) → sheetReadOf to t source .answer ≡ Done → sheetSize to ≤ length target
+    → convertOf to source target ≡ stored (Refused (when (ltb (length source) (sheetSize (other to))) 9 11)) target
+never-converted to t source target done room =
+    let no = either _ 9 11 (number 9 (omega arith)) (number 11 (omega arith)) in
+    let answered = other-answers to source (free-of to t source done) in
+    convert-refused (other to) to source target _ (same-number (other to) to t source target room (λ z. no (sym answered ∙ z)) ∙ answered) no
+
 pub sheet-forms : SheetForms
 sheet-forms =
     record {
       laidOut = laid-out;
       sized = sized;
+      atTheEnd = at-the-end;
       forward = forward;
       zero = zero;
       back = back;
@@ -173,6 +189,7 @@ sheet-forms =
       oneOfTwo = one-of-two;
       twoOfOne = two-of-one;
       neverMisread = never-misread;
+      neverConverted = never-converted;
       changed = λ form t u bytes i v done here other. read-refused form (changedAt form bytes i v) u (faultAt form i) (byte-changed form bytes i v (free-of form t bytes done) here other) (fault-number form i);
       changedForOther = λ form t u bytes i v done accepted. other-refuses form bytes (free-of form t bytes done) (length bytes - sheetSize form + i) v (free-of (other form) u (changedAt form bytes i v) accepted);
     }

@@ -30,11 +30,14 @@ faultAt form i =
 -- A good sheet is one that its reader accepts; what state t or u a reader had plays no part.
 pub record SheetForms : Type 0 where
   -- "Form 2 has a 50-byte body: edition (0 or 1), waits, then the 48 bytes of form 1; the trailer says form 2 and distance 50, so 58 bytes.": byte by
-  -- byte, the sum being that of the 50.
+  -- byte, the sum being that of the 50. (0 or 1: `valid` asks it.)
   pub laidOut : (s : Controller) → sheetOf Two s
       ≡ s .edition ∷ s .waits ∷ bodyOf One s
       ++ (0x02 ∷ 0x00 ∷ 0x32 ∷ 0x00 ∷ wordBytes (s .edition + (s .waits + total (bodyOf One s))) ++ (0x44 ∷ 0x4D ∷ []))
   pub sized : (s : Controller) → (length (bodyOf One s) ≡ 48) × (length (sheetOf Two s) ≡ 58)
+  -- In either form a sheet that was written is the end of the slice, "the rest isn't touched".
+  pub atTheEnd : (form : Form) (s : Controller) (out : List ℕ) → sheetWriteOf form s out .answer ≡ Done
+      → sheetWriteOf form s out .bytes ≡ take (length out - sheetSize form) out ++ sheetOf form s
   -- Every good sheet of form 1 is converted, into any slice that has room.
   pub forward : (t : Controller) (source target : List ℕ) → sheetReadOf One t source .answer ≡ Done → 58 ≤ length target
       → convertOf Two source target .answer ≡ Done
@@ -74,10 +77,13 @@ pub record SheetForms : Type 0 where
   -- A form 2 reader answers 11 to a form 1 sheet in 58 bytes or more, 9 in fewer.
   pub twoOfOne : (t u : Controller) (bytes : List ℕ) → sheetReadOf One t bytes .answer ≡ Done
       → sheetReadOf Two u bytes ≡ record { controller = u; answer = Refused (when (ltb (length bytes) 58) 9 11) }
-  -- So do the C library's am9517_load and am9517_load2: a sheet of the other form is never misread, and the chip stays.
+  -- So do the C library's am9517_load and am9517_load2: a good sheet of the other form is never misread, and the chip stays;
   pub neverMisread : (form : Form) (s t : Controller) (bytes : List ℕ) → does s (CLoad form bytes) .refusal ≡ 0
       → does t (CLoad (other form) bytes)
       ≡ record { refusal = when (ltb (length bytes) (sheetSize (other form))) 9 11; beside = 0 ∷ []; leaves = scene t [] [] [] }
+  -- nor is one of the form that is to be written taken for a source.
+  pub neverConverted : (to : Form) (t : Controller) (source target : List ℕ) → sheetReadOf to t source .answer ≡ Done → sheetSize to ≤ length target
+      → convertOf to source target ≡ stored (Refused (when (ltb (length source) (sheetSize (other to))) 9 11)) target
   -- Any one changed byte of a good sheet is found: by its own form's reader, which says where,
   pub changed : (form : Form) (t u : Controller) (bytes : List ℕ) (i v : ℕ) → sheetReadOf form t bytes .answer ≡ Done → i < sheetSize form
       → ¬ (v ≡ getD bytes (length bytes - sheetSize form + i) 0)
