@@ -79,6 +79,28 @@ fn stores(name: &[u8]) -> bool {
     same(name, b"sheet") | same(name, b"sheet2") | same(name, b"forward") | same(name, b"back")
 }
 
+// The commands that make the state another one.
+fn makes_state(name: &[u8]) -> bool {
+    same(name, b"state") | same(name, b"full") | same(name, b"fresh") | same(name, b"waits")
+}
+
+fn state_limit(out: &mut [u8], at: usize, name: &[u8]) -> usize {
+    if same(name, b"state") {
+        return text(out, at, b"a state has 48 bytes, which are 96 digits\n");
+    }
+    if same(name, b"full") {
+        return text(
+            out,
+            at,
+            b"a state in full has 50 bytes, which are 100 digits\n",
+        );
+    }
+    if same(name, b"fresh") {
+        return text(out, at, b"E is 0, an Am9517A, or 1, an Intel 8237A\n");
+    }
+    text(out, at, b"N is 255 at most\n")
+}
+
 // The words are such as the form asks for, and yet it can't be done.
 fn limit(out: &mut [u8], at: usize, held: Held, name: &[u8], line: &[u8]) -> usize {
     if same(name, b"feed") | same(name, b"fill") {
@@ -94,21 +116,8 @@ fn limit(out: &mut [u8], at: usize, held: Held, name: &[u8], line: &[u8]) -> usi
             b"N is 16384 at most, and all lies within the memory, which has 65537 bytes\n",
         );
     }
-    if same(name, b"state") {
-        return text(out, at, b"a state has 48 bytes, which are 96 digits\n");
-    }
-    if same(name, b"full") {
-        return text(
-            out,
-            at,
-            b"a state in full has 50 bytes, which are 100 digits\n",
-        );
-    }
-    if same(name, b"fresh") {
-        return text(out, at, b"E is 0, an Am9517A, or 1, an Intel 8237A\n");
-    }
-    if same(name, b"waits") {
-        return text(out, at, b"N is 255 at most\n");
+    if makes_state(name) {
+        return state_limit(out, at, name);
     }
     if same(name, b"help") {
         let next = named(out, at, line, 1);

@@ -31,9 +31,9 @@ valid-waiting : (n : ℕ) (s : Controller) → valid (waiting n s) ≡ valid s
 unfolding _and_ modeValid modesValid fieldsValid serviceValid valid
 valid-waiting n s = refl
 
-set-when-idle : (s : Controller) (n : ℕ) → valid s ≡ true → s .«in_service» ≡ 0 → waitsOf s n ≡ record { controller = waiting n s; answer = Done }
+taken-when-idle : (s : Controller) (n : ℕ) → valid s ≡ true → s .«in_service» ≡ 0 → waitsOf s n ≡ record { controller = waiting n s; answer = Done }
 unfolding outcome refusal first when
-set-when-idle s n v i = simp (v, eq-eqb _ _ i)
+taken-when-idle s n v i = simp (v, eq-eqb _ _ i)
 
 module _ (s : Controller) (m d r : List ℕ) (limit eop : ℕ) where
   run-number : refusal (runGrounds s m) ≡ refusal (runGrounds (waiting 0 s) m)
@@ -77,4 +77,4 @@ module _ (s : Controller) (m d r : List ℕ) (k : ℕ) where
       go false = both (close (beginning s m r) (round.Refused n)) (close (beginning (waiting 0 s) m r) (round.Refused n)) refl
 
 pub slow-cards : SlowCards
-slow-cards = record { fresh = λ e. refl; set = set-when-idle; kept = waits-kept; run = ran-slow; round = rounded-slow }
+slow-cards = record { fresh = λ e. refl; taken = taken-when-idle; kept = waits-kept; run = ran-slow; round = rounded-slow }

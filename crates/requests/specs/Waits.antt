@@ -49,7 +49,7 @@ pub record SlowCards : Type 0 where
   -- A fresh state has none.
   pub fresh : (edition : ℕ) → fresh edition .waits ≡ 0
   -- "set by its own call when idle": an idle state in its ranges has them from then on, and nothing else of it changes,
-  pub set : (s : Controller) (n : ℕ) → valid s ≡ true → s .«in_service» ≡ 0 → waitsOf s n ≡ record { controller = waiting n s; answer = Done }
+  pub taken : (s : Controller) (n : ℕ) → valid s ≡ true → s .«in_service» ≡ 0 → waitsOf s n ≡ record { controller = waiting n s; answer = Done }
   -- "and unchanged by reset", and by all else but the reading of a sheet, which gives the sheet's own, 0 in form 1 (Sheets `readWaits`).
   pub kept : (s : Controller) (op : Op) → ((n : ℕ) → ¬ (op ≡ Waits n)) → ((form : Form) (bytes : List ℕ) → ¬ (op ≡ SheetReading form bytes))
       → next s op .waits ≡ s .waits
