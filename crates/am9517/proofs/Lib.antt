@@ -4,5 +4,6 @@ pub mod KeepLaws
 pub mod RefusalLaws
 pub mod RegisterLaws
 pub mod ModeLaws
+pub mod TableLaws
 pub mod MaskLaws
 pub mod ServingLaws

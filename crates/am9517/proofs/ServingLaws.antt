@@ -2,7 +2,7 @@
 use Prim.Native.Nat.{ℕ, zero, suc, _+_, _-_, _*_, _%_, _^_, _≤_, _<_, min, max}
 use mathlib.Core.Path.{_≡_, refl, sym, ap, ap₂, _∙_}
 use mathlib.Core.Bool.{Bool, true, false, not, _&&_, _||_}
-use mathlib.Core.List.{[], _∷_}
+use mathlib.Core.List.{List, [], _∷_}
 use native.Mathlib.Omega.{arith}
 use lib.Dec.{eqb}
 use lib.Bits.{bitAnd, bitOr, and-le-l, or-lt, and-zero-r, or-zero-r}
@@ -19,6 +19,7 @@ use Rattle.am9517.specs.ClosedSets.{linesOf, blocksOf, entitledOf}
 use Rattle.am9517.specs.declared.Controller.{Controller}
 use Rattle.am9517.proofs.RangeLaws.{below4}
 use Rattle.am9517.proofs.ModeLaws.{every, every-told, same, same-told}
+use Rattle.am9517.proofs.TableLaws.{entry, ruled, entry-told}
 
 -- what a test weighs is 0 or its weight
 weighs : (t : Bool) (w : ℕ) → when t w 0 ≡ w * when t 1 0
@@ -162,6 +163,18 @@ lines-are c = held-back (disabled (c .command)) (active c)
 pub blocks-are : (c : Controller) → when (disabled (c .command)) 0 (setOf (λ n. isBlock (channel c n .mode))) ≡ blocksOf c
 unfolding blocksOf
 blocks-are c = held-back (disabled (c .command)) (λ n. isBlock (channel c n .mode))
+
+-- only the channel's remainder and the four lowest bits of the set count
+pub picked-from-rest : (l s : ℕ) → pickedFrom l s ≡ pickedFrom (l % 4) (s % 16)
+unfolding pickedFrom
+picked-from-rest l s =
+    let a : (k : ℕ) → asked l k ≡ asked (l % 4) k = λ k. omega arith in
+    let b : (n : ℕ) → n < 4 → bit s n ≡ bit (s % 16) n = below4 (λ (n : ℕ). bit s n ≡ bit (s % 16) n) (omega arith) (omega arith) (omega arith) (omega arith) in
+    rw (a 0, a 1, a 2, a 3, b (asked (l % 4) 0) (omega arith), b (asked (l % 4) 1) (omega arith), b (asked (l % 4) 2) (omega arith), b (asked (l % 4) 3) (omega arith))
+
+-- an entry of a table that is by the rule
+pub picked-from-entry : (t : List (List ℕ)) (l s : ℕ) → ruled pickedFrom 4 16 t ≡ true → entry t (l % 4) (s % 16) ≡ pickedFrom l s
+picked-from-entry t l s h = entry-told pickedFrom 4 16 t h (l % 4) (s % 16) (omega arith) (omega arith) ∙ sym (picked-from-rest l s)
 
 pub picked-from-most : (l s : ℕ) → pickedFrom l s ≤ 4
 unfolding pickedFrom first

@@ -5,14 +5,13 @@ use crate::modes::disabled;
 use crate::modes::is_block;
 use crate::modes::rotating;
 use words::bits::bit;
-use words::bits::is_set;
 use words::choice::when;
 ghost use mathlib.Core.Path.{_≡_};
 ghost use Prim.Native.Nat.{_+_, _≤_};
 ghost use Rattle.words.specs.Choice.{when};
 ghost use Rattle.am9517.specs.Fields.{channel};
 ghost use Rattle.am9517.specs.Modes.{isBlock};
-ghost use Rattle.am9517.specs.Serving.{active, setOf, status, asked, entitledSet, pickedFrom, picked, granted};
+ghost use Rattle.am9517.specs.Serving.{active, setOf, status, entitledSet, pickedFrom, picked, granted};
 ghost use Rattle.am9517.specs.ClosedSets.{linesOf, blocksOf, entitledOf};
 
 // Four bits: the weight of each that is set.
@@ -29,26 +28,19 @@ pub fn entitled_of(lines: u8, blocks: u8, mask: u8, request: u8) -> u8
     lines & (255 - mask) | blocks & request
 }
 
-// The channel that is asked k-th.
-fn asked(last: u8, k: usize) -> u8
-    requires { ⌜ k ≤ 3 ⌝ }
-    ensures { λ r. ⌜ r ≡ asked last k ⌝ }
-{
-    ((last as usize + 1 + k) % 4) as u8
-}
+// The first channel of each set of four bits, a row for each channel that is asked last; 4 is none. The row of 3 is fixed order.
+const FIRST: [[u8; 16]; 4] = [
+    [4, 0, 1, 1, 2, 2, 1, 1, 3, 3, 1, 1, 2, 2, 1, 1],
+    [4, 0, 1, 0, 2, 2, 2, 2, 3, 3, 3, 3, 2, 2, 2, 2],
+    [4, 0, 1, 0, 2, 0, 1, 0, 3, 3, 3, 3, 3, 3, 3, 3],
+    [4, 0, 1, 0, 2, 0, 1, 0, 3, 0, 1, 0, 2, 0, 1, 0],
+];
 
 // The first channel of a set, by the one that is asked last; 4 where there is none.
 pub fn picked_from(last: u8, set: u8) -> u8
     ensures { λ r. ⌜ r ≡ pickedFrom last set ⌝ }
 {
-    let first = asked(last, 0);
-    let second = asked(last, 1);
-    let third = asked(last, 2);
-    let fourth = asked(last, 3);
-    let n = when(is_set(set, fourth as usize), fourth, 4);
-    let n = when(is_set(set, third as usize), third, n);
-    let n = when(is_set(set, second as usize), second, n);
-    when(is_set(set, first as usize), first, n)
+    FIRST[last as usize % 4][set as usize % 16]
 }
 
 impl Controller {
