@@ -3,11 +3,11 @@ use Prim.Native.Nat.{ℕ, zero, suc, _/_, _%_, _^_, _<_}
 use mathlib.Core.Path.{_≡_, refl, sym, _∙_, ap}
 use mathlib.Core.Bool.{Bool, true, false, not, _&&_, _||_}
 use native.Mathlib.Omega.{arith}
-use lib.Dec.{eqb}
+use lib.Dec.{eqb, leb, ltb}
 use borrow.Author.Tests.{eqb-true, eqb-false}
 use Rattle.words.specs.Choice.{_and_}
 use Rattle.am9517.specs.Fields.{channel}
-use Rattle.am9517.specs.Modes.{transferBits, serviceBits, modeRefused}
+use Rattle.am9517.specs.Modes.{transferBits, serviceBits, isSingle, modeRefused}
 use Rattle.am9517.specs.Ranges.{modeValid, modesValid}
 use Rattle.am9517.specs.declared.Controller.{Controller}
 use Rattle.am9517.proofs.RangeLaws.{and-left, and-right}
@@ -51,6 +51,14 @@ unfolding bit-right
 mode-bit m h =
     let service : m / 4 / 16 ≡ serviceBits m = omega arith in
     same-told _ _ (every-told bit-right 64 (m / 4) bits-right (omega arith)) ∙ ap (λ (k : ℕ). eqb (transferBits m) 3 && not (eqb k 3)) service
+
+-- the single modes are the numbers from 64 to 127
+single-right : ℕ → Bool
+single-right m = same (leb 64 m && ltb m 128) (isSingle m)
+
+pub single-told : (m : ℕ) → m < 256 → leb 64 m && ltb m 128 ≡ isSingle m
+unfolding every single-right same
+single-told m h = same-told _ _ (every-told single-right 256 m refl h)
 
 -- tests of which each asks a thing and forbids another: all that is asked, then all that is forbidden
 apart : (a x p y : Bool) → (a && x) && not (p || y) ≡ (a && not p) && (x && not y)

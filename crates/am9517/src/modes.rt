@@ -72,7 +72,7 @@ pub fn is_demand(mode: u8) -> bool
 pub fn is_single(mode: u8) -> bool
     ensures { λ r. ⌜ r ≡ isSingle mode ⌝ }
 {
-    mode / 64 == 1
+    (64 <= mode) & (mode < 128)
 }
 
 pub fn is_block(mode: u8) -> bool

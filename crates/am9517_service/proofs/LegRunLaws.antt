@@ -141,7 +141,7 @@ module _ (c : Controller) (m d r : List ℕ) (limit eop : ℕ) (nc : memoryToMem
       record {
         most = omega arith;
         bytes = λ e. omega (arith, stock-bytes ch (length d) (length r) e);
-        space = λ e. omega (arith, stock-space ch (length d) (length r) (read-not-write ch e) e);
+        space = λ e. omega (arith, stock-space ch (length d) (length r) (read-not-write (ch .mode) e) e);
       }
 
   -- The service ends with the n-th transfer.

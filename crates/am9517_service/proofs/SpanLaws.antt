@@ -7,7 +7,7 @@ use native.Mathlib.Omega.{arith}
 use lib.Dec.{eqb, leb}
 use lib.ListN.{length, take, drop, take-append-drop}
 use borrow.Rule.Slice.PartMut.{putMid}
-use borrow.Author.Tests.{eqb-true, eqb-false, ne-eqb, le-leb, lt-leb}
+use borrow.Author.Tests.{eqb-true, eqb-false, eq-eqb, ne-eqb, le-leb, lt-leb}
 use Rattle.words.specs.Choice.{when}
 use Rattle.words.specs.Steps.{steps}
 use Rattle.words.specs.Spans.{least, spread}
@@ -51,12 +51,19 @@ until once count eop =
       last = λ a b. absurd (least-either eop (count + 1) b a);
     }))
 
--- a read is no write
-pub read-not-write : (ch : Channel) → reads ch ≡ true → writes ch ≡ false
-read-not-write ch e = ne-eqb _ _ (λ x. eqb-false 2 1 refl (sym (eqb-true (transferBits (ch .mode)) 2 e) ∙ x))
+-- a read is no write, a write no read
+pub read-not-write : (mode : ℕ) → isRead mode ≡ true → isWrite mode ≡ false
+read-not-write mode e = ne-eqb _ _ (λ x. eqb-false 2 1 refl (sym (eqb-true (transferBits mode) 2 e) ∙ x))
 
 pub write-not-read : (mode : ℕ) → isWrite mode ≡ true → isRead mode ≡ false
 write-not-read mode e = ne-eqb _ _ (λ x. eqb-false 1 2 refl (sym (eqb-true (transferBits mode) 1 e) ∙ x))
+
+-- whether something is left, of n used of m
+pub some-left : (m n : ℕ) → n < m → eqb (m - n) 0 ≡ false
+some-left m n h = ne-eqb (m - n) 0 (λ x. omega arith)
+
+pub none-left : (m n : ℕ) → m ≤ n → eqb (m - n) 0 ≡ true
+none-left m n h = eq-eqb (m - n) 0 (omega arith)
 
 -- What the device's bytes and its room last for.
 pub stock-bytes : (ch : Channel) (bytes space : ℕ) → writes ch ≡ true → stockOf ch bytes space ≡ bytes
@@ -79,7 +86,7 @@ stocked ch m d r limit n size most h =
       memory = size;
       most = most;
       bytes = λ e. omega (arith, stock-bytes ch (length d) (length r) e);
-      space = λ e. omega (arith, stock-space ch (length d) (length r) (read-not-write ch e) e);
+      space = λ e. omega (arith, stock-space ch (length d) (length r) (read-not-write (ch .mode) e) e);
     }
 
 pub until-most : (once : Bool) (count eop n : ℕ) → count < 65536 → n ≤ untilEnd once count eop → n ≤ 65536

@@ -137,7 +137,7 @@ module _ (c : Controller) (m d r : List ℕ) where
       let chs : set (set (c .channels) (c .serving) (currentAfter ch (j + 1))) (c .serving) (stepped (currentAfter ch (j + 1))) ≡ set (c .channels) (c .serving) (currentAfter ch (j + 1 + 1)) =
       set-set (c .channels) (c .serving) (currentAfter ch (j + 1)) (stepped (currentAfter ch (j + 1))) ∙ ap (λ (x : Channel). set (c .channels) (c .serving) x) (stepped-current-after ch (j + 1)) in
       moved-by (travelled c m d r (j + 1)) d (currentAfter ch (j + 1)) (server-there (j + 1) nz)
-      ∙ simp (chs, back, memory-on (writes ch) (j + 1), room-on (reads ch) (writes ch) (j + 1) (read-not-write ch), counts-on (writes ch) (j + 1), counts-on (reads ch) (j + 1), states-on j)
+      ∙ simp (chs, back, memory-on (writes ch) (j + 1), room-on (reads ch) (writes ch) (j + 1) (read-not-write (ch .mode)), counts-on (writes ch) (j + 1), counts-on (reads ch) (j + 1), states-on j)
 
   -- the first transfer
   states-first : cost c (ch .address) ≡ states 1

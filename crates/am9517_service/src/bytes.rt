@@ -78,18 +78,18 @@ pub(crate) fn move_on(
     ensures memory { λ _. ⌜ now (memory .exit) ≡ stored ch (drop used (now (device .entry))) (now (memory .entry)) n ⌝ }
     ensures room { λ _. ⌜ now (room .exit) ≡ take written (now (room .entry)) ++ loaded ch (now (memory .entry)) (drop written (now (room .entry))) n ⌝ }
 {
-    if is_write(ch.mode) {
-        bring(ch.mode, ch.address, memory, &device[used..], n);
-        return Moved {
-            used: used + n,
-            written,
-        };
-    }
     if is_read(ch.mode) {
         fetch(ch.mode, ch.address, memory, &mut room[written..], n);
         return Moved {
             used,
             written: written + n,
+        };
+    }
+    if is_write(ch.mode) {
+        bring(ch.mode, ch.address, memory, &device[used..], n);
+        return Moved {
+            used: used + n,
+            written,
         };
     }
     Moved { used, written }

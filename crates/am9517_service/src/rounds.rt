@@ -151,38 +151,35 @@ fn transfer_alone(
 {
     let used = n.used;
     let written = n.written;
-    let still = Alone {
-        made: false,
-        used,
-        written,
-    };
-    if !may {
-        return still;
-    }
-    if is_write(mode) {
-        if device.len() - used == 0 {
-            return still;
+    if may {
+        if is_read(mode) {
+            if written < room.len() {
+                fetch(mode, address, memory, &mut room[written..], 1);
+                return Alone {
+                    made: true,
+                    used,
+                    written: written + 1,
+                };
+            }
+        } else if is_write(mode) {
+            if used < device.len() {
+                bring(mode, address, memory, &device[used..], 1);
+                return Alone {
+                    made: true,
+                    used: used + 1,
+                    written,
+                };
+            }
+        } else {
+            return Alone {
+                made: true,
+                used,
+                written,
+            };
         }
-        bring(mode, address, memory, &device[used..], 1);
-        return Alone {
-            made: true,
-            used: used + 1,
-            written,
-        };
-    }
-    if is_read(mode) {
-        if room.len() - written == 0 {
-            return still;
-        }
-        fetch(mode, address, memory, &mut room[written..], 1);
-        return Alone {
-            made: true,
-            used,
-            written: written + 1,
-        };
     }
     Alone {
-        made: true,
+        made: false,
         used,
         written,
     }
