@@ -153,12 +153,16 @@ pub enum Fault {
     ConvertsToFront,
     ConvertsOneState,
     ConvertsAndLoads,
+    LowestAskedFirst,
+    FixedFromOne,
+    OneEntryWrong,
+    NoneIsZero,
 }
 
 use Fault::*;
 
 /// Each fault with its name and what it does.
-pub const ALL: [(Fault, &str, &str); 147] = [
+pub const ALL: [(Fault, &str, &str); 151] = [
     (StopsEarly, "stops-early", "TC when the count reads 0, one byte early"),
     (S1OnCarryOnly, "s1-on-carry-only", "S1 only on a carry, none in a new service"),
     (AnyReadClearsTc, "any-read-clears-tc", "TC bits cleared by any register read"),
@@ -310,6 +314,10 @@ pub const ALL: [(Fault, &str, &str); 147] = [
     (ConvertsToFront, "converts-to-front", "the converted sheet is at the target's front"),
     (ConvertsOneState, "converts-one-state", "converting is refused by 1 in a broken state"),
     (ConvertsAndLoads, "converts-and-loads", "the sheet that is converted is loaded, too"),
+    (LowestAskedFirst, "lowest-asked-first", "rotating, the lowest is asked first, not last"),
+    (FixedFromOne, "fixed-from-one", "fixed order is 1, 2, 3, 0, as after lowest 0"),
+    (OneEntryWrong, "one-entry-wrong", "rotating, lowest 2, entitled 1 and 2: 2 is picked"),
+    (NoneIsZero, "none-is-zero", "channel 0 is granted where nobody is entitled, in a round too"),
 ];
 
 thread_local! {

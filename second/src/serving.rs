@@ -44,11 +44,32 @@ impl Controller {
     /// "A grant takes the first entitled channel: fixed order 0, 1, 2, 3, or, rotating, from the
     /// one after the lowest, going round."
     pub fn first_entitled(self) -> Option<usize> {
-        if faults::on(Fault::GrantsZero) {
-            return Some(0);
+        let first = self.asked_first();
+        let right = (first..first + 4).map(|n| n % 4).find(|&channel| self.is_entitled(channel));
+        match faults::chosen() {
+            Some(Fault::GrantsZero) => Some(0),
+            Some(Fault::NoneIsZero) => right.or(Some(0)),
+            Some(Fault::OneEntryWrong) if self.is_at_the_wrong_entry() => Some(2),
+            _ => right,
         }
-        let first = if self.is_rotating() { usize::from(self.lowest) + 1 } else { 0 };
-        (first..first + 4).map(|n| n % 4).find(|&channel| self.is_entitled(channel))
+    }
+
+    /// Where the going round begins. It may be 4, which is channel 0 again.
+    fn asked_first(self) -> usize {
+        let lowest = usize::from(self.lowest);
+        match (self.is_rotating(), faults::chosen()) {
+            (true, Some(Fault::LowestAskedFirst)) => lowest,
+            (true, _) => lowest + 1,
+            (false, Some(Fault::FixedFromOne)) => 1,
+            (false, _) => 0,
+        }
+    }
+
+    /// Rotating, lowest 2, entitled exactly channels 1 and 2: the one place that a fault picks
+    /// wrongly, as a table of 64 entries could have one wrong.
+    fn is_at_the_wrong_entry(self) -> bool {
+        let entitled = [0, 1, 2, 3].map(|channel| self.is_entitled(channel));
+        self.is_rotating() && self.lowest == 2 && entitled == [false, true, true, false]
     }
 
     /// Begin a service. "grant 1, 3, 6".
