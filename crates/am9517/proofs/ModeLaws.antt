@@ -1,4 +1,4 @@
--- The tests that the code makes in another form than the definitions: the refused modes as the bits of one number.
+-- The tests that the code makes in another form than the definitions: the refused modes as the bits of one number, the single ones as a range.
 use Prim.Native.Nat.{ℕ, zero, suc, _/_, _%_, _^_, _<_}
 use mathlib.Core.Path.{_≡_, refl, sym, _∙_, ap}
 use mathlib.Core.Bool.{Bool, true, false, not, _&&_, _||_}

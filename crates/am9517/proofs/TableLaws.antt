@@ -8,7 +8,7 @@ use lib.ListN.{getD}
 use borrow.Author.Tests.{eqb-true}
 use Rattle.am9517.proofs.ModeLaws.{every, every-told}
 
--- entry j of row i
+-- entry j of row i; a missing one is 0
 abbrev pub entry : List (List ℕ) → ℕ → ℕ → ℕ
 entry t i j = getD (getD t i []) j 0
 

@@ -72,6 +72,7 @@ pub fn is_demand(mode: u8) -> bool
 pub fn is_single(mode: u8) -> bool
     ensures { λ r. ⌜ r ≡ isSingle mode ⌝ }
 {
+    // A range is two instructions in the loop of a round, the bits are four.
     (64 <= mode) & (mode < 128)
 }
 

@@ -28,7 +28,7 @@ pub fn entitled_of(lines: u8, blocks: u8, mask: u8, request: u8) -> u8
     lines & (255 - mask) | blocks & request
 }
 
-// The first channel of each set of four bits, a row for each channel that is asked last; 4 is none. The row of 3 is fixed order.
+// The first channel of each set (bit n is channel n), a row for each channel that is asked last; 4 is none. The row of 3 is fixed order.
 const FIRST: [[u8; 16]; 4] = [
     [4, 0, 1, 1, 2, 2, 1, 1, 3, 3, 1, 1, 2, 2, 1, 1],
     [4, 0, 1, 0, 2, 2, 2, 2, 3, 3, 3, 3, 2, 2, 2, 2],

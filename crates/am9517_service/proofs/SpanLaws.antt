@@ -58,12 +58,12 @@ read-not-write mode e = ne-eqb _ _ (λ x. eqb-false 2 1 refl (sym (eqb-true (tra
 pub write-not-read : (mode : ℕ) → isWrite mode ≡ true → isRead mode ≡ false
 write-not-read mode e = ne-eqb _ _ (λ x. eqb-false 1 2 refl (sym (eqb-true (transferBits mode) 1 e) ∙ x))
 
--- whether something is left, of n used of m
-pub some-left : (m n : ℕ) → n < m → eqb (m - n) 0 ≡ false
-some-left m n h = ne-eqb (m - n) 0 (λ x. omega arith)
+-- whether anything is left of m, where n are used
+pub not-used-up : (m n : ℕ) → n < m → eqb (m - n) 0 ≡ false
+not-used-up m n h = ne-eqb (m - n) 0 (λ x. omega arith)
 
-pub none-left : (m n : ℕ) → m ≤ n → eqb (m - n) 0 ≡ true
-none-left m n h = eq-eqb (m - n) 0 (omega arith)
+pub used-up : (m n : ℕ) → m ≤ n → eqb (m - n) 0 ≡ true
+used-up m n h = eq-eqb (m - n) 0 (omega arith)
 
 -- What the device's bytes and its room last for.
 pub stock-bytes : (ch : Channel) (bytes space : ℕ) → writes ch ≡ true → stockOf ch bytes space ≡ bytes

@@ -78,6 +78,7 @@ pub(crate) fn move_on(
     ensures memory { λ _. ⌜ now (memory .exit) ≡ stored ch (drop used (now (device .entry))) (now (memory .entry)) n ⌝ }
     ensures room { λ _. ⌜ now (room .exit) ≡ take written (now (room .entry)) ++ loaded ch (now (memory .entry)) (drop written (now (room .entry))) n ⌝ }
 {
+    // Asked for a read first, the loop of a round has fewer instructions.
     if is_read(ch.mode) {
         fetch(ch.mode, ch.address, memory, &mut room[written..], n);
         return Moved {

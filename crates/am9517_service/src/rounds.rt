@@ -152,6 +152,7 @@ fn transfer_alone(
     let used = n.used;
     let written = n.written;
     if may {
+        // A read first, and one way out where no transfer is made: the loop has fewer instructions so.
         if is_read(mode) {
             if written < room.len() {
                 fetch(mode, address, memory, &mut room[written..], 1);
@@ -360,7 +361,7 @@ pub fn round(c: Controller, memory: &mut [u8], device: &[u8], room: &mut [u8], k
         let mode = s.channels[i].mode;
         let count = bounded(s.channels[i].count);
         let address = bounded(s.channels[i].address);
-        // The parentheses save a service of am9517_round 7 instructions.
+        // The parentheses save a single service 3 to 12 instructions.
         let may = is_single(mode) & ((count != 0) & (i != f.copier));
         let l = transfer_alone(may, mode, address, n, memory, device, room);
         n.used = l.used;
