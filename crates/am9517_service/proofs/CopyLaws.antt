@@ -41,21 +41,21 @@ use Rattle.am9517_service.proofs.CopySourceLaws.{source-none, source-mo
 use Rattle.am9517_service.proofs.TransferLaws.{next-mul, inside-of, count-left, stepped-current-after, stepped-first, address-after-none, current-after-count}
 
 -- two places set again
-two-again : (l : List Channel) (x y x' y' : Channel) → set (set (set (set l 0 x) 1 y) 0 x') 1 y' ≡ set (set l 0 x') 1 y'
+pub two-again : (l : List Channel) (x y x' y' : Channel) → set (set (set (set l 0 x) 1 y) 0 x') 1 y' ≡ set (set l 0 x') 1 y'
 two-again l x y x' y' =
     let apart : _≢_ {A = ℕ} 1 0 = λ e. eqb-false 1 0 refl e in
     ap (λ (k : List Channel). set k 1 y') (set-comm (set l 0 x) 1 0 y x' apart ∙ ap (λ (k : List Channel). set k 1 y) (set-set l 0 x x'))
     ∙ set-set (set l 0 x') 1 y y'
 
 -- the transfer of a world whose channels 0 and 1 are these
-abbrev copiedWith : World → Channel → Channel → World
+abbrev pub copiedWith : World → Channel → Channel → World
 copiedWith w from to =
     let c = w .controller in
     let byte = getD (w .memory) (from .address) 0 in
     world (withChannel (withChannel (put c Temporary byte) 0 (sourceNext (addressHold (c .command)) from)) 1 (stepped to)) (set (w .memory) (to .address) byte) (w .room)
     (plus (w .counts) (counts 1 0 0 (copyPace (c .waits))))
 
-copied-by : (w : World) (from to : Channel) → channel (w .controller) 0 ≡ from → channel (w .controller) 1 ≡ to → copied w ≡ copiedWith w from to
+pub copied-by : (w : World) (from to : Channel) → channel (w .controller) 0 ≡ from → channel (w .controller) 1 ≡ to → copied w ≡ copiedWith w from to
 unfolding copied
 copied-by w from to e g = ap (λ (x : Channel). copiedWith w x (channel (w .controller) 1)) e ∙ ap (copiedWith w from) g
 

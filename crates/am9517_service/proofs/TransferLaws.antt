@@ -73,7 +73,7 @@ unfolding dropped active
 dropped-by c x p k n e = rw e (simp (p, k, n))
 
 -- the transfer of a world whose serving channel is this
-abbrev movedWith : World → List ℕ → Channel → World
+abbrev pub movedWith : World → List ℕ → Channel → World
 movedWith w d ch =
     let c = w .controller in
     world (latched (withChannel c (c .serving) (stepped ch)) (ch .address))
@@ -81,7 +81,7 @@ movedWith w d ch =
     (when (reads ch) (set (w .room) (w .counts .written) (getD (w .memory) (ch .address) 0)) (w .room))
     (plus (w .counts) (counts 1 (when (writes ch) 1 0) (when (reads ch) 1 0) (cost c (ch .address))))
 
-moved-by : (w : World) (d : List ℕ) (ch : Channel) → servingChannel (w .controller) ≡ ch → moved w d ≡ movedWith w d ch
+pub moved-by : (w : World) (d : List ℕ) (ch : Channel) → servingChannel (w .controller) ≡ ch → moved w d ≡ movedWith w d ch
 unfolding moved
 moved-by w d ch e = ap (movedWith w d) e
 

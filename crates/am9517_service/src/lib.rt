@@ -11,6 +11,7 @@ mod transfers;
 
 pub use rounds::round;
 pub use runs::run;
+pub use runs::run_refusal;
 
 // Why a run stopped.
 pub enum Reason {

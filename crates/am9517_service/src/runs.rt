@@ -102,7 +102,8 @@ fn refused(c: Controller, number: u8) -> Ran
     }
 }
 
-fn run_refusal(c: Controller, memory: &[u8]) -> u8
+// The number that refuses a run of this service over this memory, or the judging of its log; 0 where nothing does.
+pub fn run_refusal(c: Controller, memory: &[u8]) -> u8
     ensures { λ r. ⌜ r ≡ refusal (runGrounds c (now (memory .entry))) ⌝ }
 {
     let no = when(c.in_service == 0, 8, 0);
