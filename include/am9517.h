@@ -1,4 +1,4 @@
-/* am9517.h - one Am9517A or Intel 8237A DMA controller in software, as a C library. Version 4.1.0.
+/* am9517.h - one Am9517A or Intel 8237A DMA controller in software, as a C library. Version 4.2.0.
  *
  *     am9517_chip chip = am9517_fresh(AM9517_EDITION_AM9517A);
  *     uint32_t refusal = am9517_write(&chip, 0xb, 0x85);
@@ -6,8 +6,8 @@
  *         puts(am9517_refusal_text(refusal));
  *
  * Link with libam9517.a or libam9517.so.4. C99 or later, C++11 or later (am9517.hpp has a class for C++17). "Document 01"
- * is the rules of this controller, "One Am9517A in software: rules and limits", with what the landed requests A1 to A3 and A5
- * of document 02, "More requests from customers", change in them.
+ * is the rules of this controller, "One Am9517A in software: rules and limits", with what the landed requests A1 to A3, A5
+ * and A8 of document 02, "More requests from customers", change in them and add.
  *
  * PLATFORM. x86-64 Linux, the System V calling convention, 64-bit pointers: the library is machine code for it and for
  * nothing else. Of the C library it wants memset alone. The shared library names the GNU C library, of any age: with
@@ -39,6 +39,11 @@
  * whose edition and waits are 0, else 15. Forward and back gives the same bytes, and so does back and forward where back is
  * allowed. Who reads one form refuses a sheet of the other, by 11 or, in too few bytes, by 9.
  *
+ * LOGS are what the bus of another replica did in one service. A record has 8 bytes (AM9517_RECORD_SIZE): the serving channel;
+ * the kind, 0 verify, 1 write, 2 read, 3 memory-to-memory; the address, low byte first; the second address, channel 1's in
+ * memory-to-memory, else 0; the data byte, 0 for verify; the flags: bit 0 TC (the count passed 0), bit 1 external EOP, bit 2 last
+ * of the service, the others 0. am9517_judge says how far a log is what the rules do next, from a chip in service and a memory.
+ *
  * REFUSALS. Each call but am9517_version, am9517_fresh and the two texts says a refusal number, 0 for none. Where several
  * hold it is the first in the order that stands with the call. A refused call changes no field of the chip and no byte of
  * memory, room, sheet or target, and the other numbers of its answer are 0. All numbers may be given in full: a register over
@@ -46,15 +51,15 @@
  * narrows what is given, so am9517_write(&chip, 8, 0x110) writes 10h and am9517_waits(&chip, 256) sets none; ask before if the
  * number may be larger.
  *
- * AREAS are a pointer and a number of bytes. What one call is lent must not overlap: chip, memory, device, room or sheet
+ * AREAS are a pointer and a number of bytes. What one call is lent must not overlap: chip, memory, device, room, log or sheet
  * are different areas, source and target too, so no sheet is converted in its place; the compiler relies on it. (Two chips may
  * share one memory, in calls one after the other.) A pointer to a chip is never NULL and lies at an even address. An area of 0
  * bytes is never looked into; its pointer may be anything, NULL too.
  *
  * THREADS. The library keeps nothing between two calls. Calls that share no area may run at the same time: two chips, each
  * with a memory of its own. The looking calls, whose chip is const (am9517_check, am9517_entitled, am9517_status, am9517_save,
- * am9517_save2), write no byte of the chip, so several may look at one chip at once; a source and a sheet that is loaded are
- * only looked at, too. A call that changes a chip or an area must have it alone.
+ * am9517_save2), write no byte of the chip, so several may look at one chip at once; a source, a log and a sheet that is
+ * loaded are only looked at, too. A call that changes a chip or an area must have it alone.
  *
  * WHAT IS PROVED. The code of each call, for all inputs: chip, memory, room, sheet, target and answer after it are what
  * document 01's rules say, refused ones too. Not proved: that the declarations of this header are those of the library (they
@@ -62,12 +67,12 @@
  * compiles the caller, and the code generator that made the library. What a caller must keep to is what AREAS and THREADS say:
  * good pointers, no overlap, no race.
  *
- * VERSIONS. A new major number: a struct, a call or a number has changed, compile again. A new minor number: more calls; what was
- * compiled before runs on. Sheets outlive both: form 1 is document 01's, form 2 document 02's. Version 4.0 had no form 2:
- * neither am9517_save2 and am9517_load2 nor am9517_forward and am9517_back. Version 3 had no wait states: the chip's last byte
- * was padding, and there was no am9517_waits. Version 2 had the one edition: no field for it, a struct of 52 bytes,
- * am9517_fresh(void), no refusal 15. Version 1 kept the state as a sheet and had am9517_copy; its calls took the sheet where
- * these take the chip.
+ * VERSIONS. A new major number: a struct, a call or a number has changed, compile again. A new minor number: more calls; what
+ * was compiled before runs on. Sheets outlive both: form 1 is document 01's, form 2 document 02's. Version 4.1 had no
+ * am9517_judge. Version 4.0 had no form 2: neither am9517_save2 and am9517_load2 nor am9517_forward and am9517_back. Version 3
+ * had no wait states: the chip's last byte was padding, and there was no am9517_waits. Version 2 had the one edition: no field
+ * for it, a struct of 52 bytes, am9517_fresh(void), no refusal 15. Version 1 kept the state as a sheet and had am9517_copy; its
+ * calls took the sheet where these take the chip.
  */
 #ifndef AM9517_H
 #define AM9517_H
@@ -85,14 +90,15 @@ extern "C" {
 #endif
 
 #define AM9517_VERSION_MAJOR 4
-#define AM9517_VERSION_MINOR 1
+#define AM9517_VERSION_MINOR 2
 #define AM9517_VERSION_PATCH 0
-#define AM9517_VERSION 40100  /* major * 10000 + minor * 100 + patch */
+#define AM9517_VERSION 40200  /* major * 10000 + minor * 100 + patch */
 
 #define AM9517_SHEET_SIZE 56      /* bytes of a stored sheet, form 1 */
 #define AM9517_SHEET2_SIZE 58     /* and of one of form 2 */
-#define AM9517_MEMORY_SIZE 65536  /* bytes of a memory: a run or a round takes no other number */
+#define AM9517_MEMORY_SIZE 65536  /* bytes of a memory: a run, a round and a judging take no other number */
 #define AM9517_ROUND_MOST 4096    /* services that a round may be asked for */
+#define AM9517_RECORD_SIZE 8      /* bytes of a record of a log */
 
 /* Which maker's part a chip is. */
 enum am9517_edition {
@@ -110,7 +116,7 @@ enum am9517_refusal {
     AM9517_MODE = 5,             /* mode byte with bits 3-2 = 11 and bits 7-6 not 11 */
     AM9517_NOBODY = 6,           /* grant with no entitled channel */
     AM9517_MEMORY_LENGTH = 7,    /* memory not of 65,536 bytes */
-    AM9517_NO_SERVICE = 8,       /* run with no service open */
+    AM9517_NO_SERVICE = 8,       /* run or judge with no service open */
     AM9517_SHEET_SHORT = 9,      /* slice under 56 bytes for a sheet (58 in form 2) */
     AM9517_SHEET_END_MARK = 10,  /* the sheet's last two bytes are not 44h, 4Dh */
     AM9517_SHEET_FORM = 11,      /* its form is not the one that is read */
@@ -187,6 +193,13 @@ typedef struct am9517_round_told {
     uint64_t states;     /* at most 139,049,566,208: more than 32 bits */
 } am9517_round_told;
 
+/* What is found of a log. */
+typedef struct am9517_judge_told {
+    uint32_t refusal;
+    int32_t error;       /* the first wrong record's address error, -32,768 to 32,767; 0 where there is none */
+    size_t right;        /* bytes of the log that are right: all of it, or the first wrong record begins there */
+} am9517_judge_told;
+
 /* The structs lie as the library has them. C99 has no words for this; a build as C11 or C++11 asks. */
 #if defined(__cplusplus) && __cplusplus >= 201103L
 #define AM9517_HEADER_ASK_(holds) static_assert(holds, #holds)
@@ -203,6 +216,8 @@ AM9517_HEADER_ASK_(offsetof(am9517_channel, mode) == 8 && offsetof(am9517_chip, 
 AM9517_HEADER_ASK_(offsetof(am9517_chip, edition) == 50 && offsetof(am9517_chip, temporary) == 51);
 AM9517_HEADER_ASK_(offsetof(am9517_chip, command) == 52 && offsetof(am9517_chip, waits) == 53);
 AM9517_HEADER_ASK_(sizeof(am9517_told) == 8 && sizeof(am9517_run_told) == 40 && sizeof(am9517_round_told) == 56);
+AM9517_HEADER_ASK_(sizeof(am9517_judge_told) == 16 && offsetof(am9517_judge_told, error) == 4);
+AM9517_HEADER_ASK_(offsetof(am9517_judge_told, right) == 8);
 #undef AM9517_HEADER_ASK_
 #undef AM9517_HEADER_ALIGNED_
 #endif
@@ -274,6 +289,19 @@ am9517_round_told am9517_round(am9517_chip *chip,
                                uint8_t *room, size_t room_size,
                                uint32_t k);
 
+/* Judges a log of the open service, made by another replica, over a memory of 65,536 bytes. A record is right where all its bytes
+ * are what the rules do next, the device's byte and external EOP taken from the record itself. `right` is the number of bytes that
+ * are right. It is `log_size` where the log is accepted, as an empty one is and an honest one that stops early; else the first
+ * wrong record begins there: log + right and the rest is what goes back to the vendor. `error` is that record's address less the
+ * right one, modulo 65,536, as -32,768 to 32,767. It is 0 where the address is right and another byte is wrong, where under 8
+ * bytes are left, and where the rules make no transfer: behind the end of the service, with the line dropped, in cascade. Chip
+ * and memory are left as the right records made them; a dropped line is not applied, the service stays open. A log may be handed
+ * over in parts of whole records: judge the next part where this one was accepted and chip->in_service is 1; where it is 0 the
+ * service is over, and any byte behind it is wrong with error 0, though a call would be refused by 8. Refusals: 1, 7, 8. */
+am9517_judge_told am9517_judge(am9517_chip *chip,
+                               uint8_t *memory, size_t memory_size,
+                               const uint8_t *log, size_t log_size);
+
 /* Stores the chip as a sheet of form 1 in the last 56 bytes of `sheet`; bytes before them aren't touched. A chip in service
  * can be stored, and goes on after am9517_load. Memory and device are not part of it. Form 1 has no place for edition and wait
  * states: an Intel chip, and one whose `waits` is not 0, is refused by 15 (am9517_save2 stores it). Refusals: 1, 9, 15. */
@@ -316,7 +344,7 @@ static inline const char *am9517_refusal_text(uint32_t refusal)
     case 5: return "mode byte with bits 3-2 = 11 and bits 7-6 not 11";
     case 6: return "grant with no entitled channel";
     case 7: return "memory not of 65,536 bytes";
-    case 8: return "run with no service open";
+    case 8: return "run or judge with no service open";
     case 9: return "slice under 56 bytes for a sheet (58 in form 2)";
     case 10: return "sheet fault: end mark";
     case 11: return "sheet fault: first two trailer bytes";

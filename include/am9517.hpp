@@ -10,7 +10,7 @@
 // contract stands in am9517.h, and none throws. A Chip is a value: copies are chips of their own. Its fields are those of the
 // C struct, read and set by fields(); edition and wait states are among them. A result has a value or a refusal; where it is
 // refused its value is all zero. Sheets of form 2 are stored and loaded by save2, load2 and sheet2; forward and back write a
-// sheet of one form in the other.
+// sheet of one form in the other. A vendor's log is judged by judge.
 #ifndef AM9517_HPP
 #define AM9517_HPP
 
@@ -165,6 +165,13 @@ struct Round {
     std::uint64_t states;
 };
 
+// What is found of a log: the first wrong record, if it isn't accepted, begins behind the right bytes.
+struct Judged {
+    bool accepted;
+    std::size_t right;
+    std::int32_t error;
+};
+
 // ---- the chip
 
 class Chip {
@@ -207,6 +214,14 @@ public:
                                                     room.size(), k);
         const std::array<std::uint32_t, 4> services{told.services[0], told.services[1], told.services[2], told.services[3]};
         return {Refusal{told.refusal}, Round{Reason{told.reason}, services, told.transfers, told.used, told.written, told.states}};
+    }
+
+    // The log of the open service, made by another replica; in parts: the next one while fields().in_service is 1.
+    Result<Judged> judge(Bytes memory, ConstBytes log) noexcept
+    {
+        const am9517_judge_told told = am9517_judge(&chip_, memory.data(), memory.size(), log.data(), log.size());
+        const bool accepted = told.refusal == AM9517_OK && told.right == log.size();
+        return {Refusal{told.refusal}, Judged{accepted, told.right, told.error}};
     }
 
     // Into, and from, the last 56 bytes: an Am9517A without wait states alone has a sheet of form 1, and what is loaded is one.

@@ -1,4 +1,4 @@
-# find_package(am9517 4.1 REQUIRED) gives the targets am9517::am9517 (the archive) and am9517::shared (the shared library).
+# find_package(am9517 4.2 REQUIRED) gives the targets am9517::am9517 (the archive) and am9517::shared (the shared library).
 # Both bring the folder of am9517.h and am9517.hpp. The package may be moved: all is found from this file's own place.
 
 if((CMAKE_SYSTEM_NAME AND NOT CMAKE_SYSTEM_NAME STREQUAL "Linux") OR

@@ -5,6 +5,7 @@
 #include <string.h>
 
 #include "am9517.h"
+#include "record.h"
 
 /* The chip's layout, asked of C99 as well: an array of -1 stops the compiler. */
 #define LIES(name, holds) typedef char lies_##name[(holds) ? 1 : -1]
@@ -14,9 +15,10 @@ LIES(first, offsetof(am9517_chip, channels) == 0 && offsetof(am9517_chip, tc) ==
 LIES(edition, offsetof(am9517_chip, lowest) == 48 && offsetof(am9517_chip, flip_flop) == 49 && offsetof(am9517_chip, edition) == 50);
 LIES(waits, offsetof(am9517_chip, waits) == 53 && sizeof(((am9517_chip *)0)->waits) == 1);
 LIES(last, offsetof(am9517_chip, temporary) == 51 && offsetof(am9517_chip, command) == 52);
+LIES(judged, sizeof(am9517_judge_told) == 16 && offsetof(am9517_judge_told, error) == 4 && offsetof(am9517_judge_told, right) == 8);
 LIES(states, sizeof(((am9517_run_told *)0)->states) == 8 && sizeof(((am9517_round_told *)0)->states) == 8);
 
-enum { SHEET = AM9517_SHEET_SIZE, SHEET2 = AM9517_SHEET2_SIZE, MEMORY = AM9517_MEMORY_SIZE, ROOM = 16, GUARD = 32, WATCH = 0xc3 };
+enum { SHEET = AM9517_SHEET_SIZE, SHEET2 = AM9517_SHEET2_SIZE, MEMORY = AM9517_MEMORY_SIZE, RECORD = AM9517_RECORD_SIZE, ROOM = 16, GUARD = 32, WATCH = 0xc3 };
 
 static unsigned checks, wrong;
 
@@ -118,7 +120,10 @@ static void all_stay(const char *what, unsigned long which)
 
 /* ---- calls by number, so that each bad chip can be given to all of them: the refusal; other numbers must be 0 with it */
 
-enum { CALLS = 13, LOAD = 13, LOAD2 = 14 };
+enum { CALLS = 14, LOAD = 14, LOAD2 = 15 };
+
+/* The first record of the service that opened() opens in mode 84h. */
+static const uint8_t first_record[RECORD] = {0, 1, 0x34, 0x12, 0, 0, 0x11, 0};
 
 static am9517_run_told run_all(uint64_t limit, uint64_t eop_at)
 {
@@ -151,6 +156,17 @@ static uint32_t round_alone(am9517_round_told r)
     return r.refusal;
 }
 
+static am9517_judge_told judge_all(const uint8_t *log, size_t size)
+{
+    return am9517_judge(chip, at.memory, MEMORY, log, size);
+}
+
+static uint32_t judge_alone(am9517_judge_told j)
+{
+    expect(j.refusal == 0 || (j.right == 0 && j.error == 0), "numbers beside a refusal of judge", j.refusal);
+    return j.refusal;
+}
+
 static uint32_t call(int which)
 {
     switch (which) {
@@ -167,6 +183,7 @@ static uint32_t call(int which)
     case 10: return am9517_save(chip, at.sheet, sizeof at.sheet);
     case 11: return am9517_waits(chip, 1);
     case 12: return am9517_save2(chip, at.sheet, sizeof at.sheet);
+    case 13: return judge_alone(judge_all(first_record, RECORD));
     case LOAD: return am9517_load(chip, at.sheet, sizeof at.sheet);
     default: return am9517_load2(chip, at.sheet, sizeof at.sheet);
     }
@@ -186,6 +203,7 @@ static void out_of_range(const char *what)
     expect(am9517_run(chip, NULL, 0, NULL, 0, NULL, 0, 1, 0).refusal == 1, what, 91);
     expect(am9517_round(chip, NULL, 0, NULL, 0, NULL, 0, 5000).refusal == 1, what, 92);
     expect(am9517_save(chip, NULL, 0) == 1 && am9517_save2(chip, NULL, 0) == 1, what, 93);
+    expect(am9517_judge(chip, NULL, 0, NULL, 0).refusal == 1 && am9517_judge(chip, at.memory, MEMORY, first_record, 3).refusal == 1, what, 97);
     all_stay(what, 94);
 }
 
@@ -445,10 +463,17 @@ static uint32_t round_over(size_t memory_size, uint32_t k)
     return round_alone(am9517_round(chip, at.memory, memory_size, device, 4, at.room, ROOM, k));
 }
 
+static uint32_t judge_over(size_t memory_size, size_t size)
+{
+    return judge_alone(am9517_judge(chip, memory_size ? at.memory : NULL, memory_size, size ? first_record : NULL, size));
+}
+
 static void orders(void)
 {
     begin();
     refused(run_over(65535), AM9517_MEMORY_LENGTH, "run: 7 before 8");
+    refused(judge_over(65535, RECORD), AM9517_MEMORY_LENGTH, "judge: 7 before 8");
+    refused(judge_over(0, 0), AM9517_MEMORY_LENGTH, "judge of nothing: 7 before 8");
     opened(0x84, 3);
     refused(am9517_write(chip, 16, 0x0c), AM9517_NUMBER, "write: 2 before 3");
     refused(am9517_write(chip, 14, 0), AM9517_IN_SERVICE, "write: 3 before 4");
@@ -824,6 +849,19 @@ static uint64_t told(am9517_told t)
 /* What the last call counted. */
 static uint64_t any_transfers, any_states;
 
+/* A log of the chip's own service, of at most k records, is judged: as it is, or with one bit of it changed. */
+static uint64_t any_judging(uint8_t byte, uint32_t k)
+{
+    static uint8_t memory[MEMORY], log[20 * RECORD];
+    am9517_chip copy = *chip;
+    memcpy(memory, at.memory, MEMORY);
+    const size_t size = honest_log(&copy, memory, k, 0, log);
+    if (size > 0)
+        log[byte % size] = (uint8_t)(log[byte % size] ^ (byte & 1));
+    const am9517_judge_told j = judge_all(log, size);
+    return j.refusal + 17 * j.right + 1009 * (uint64_t)(uint32_t)j.error;
+}
+
 /* One call on `chip`, its states aside, folded into a number. E is not written, nothing is saved, and no run meets EOP. */
 static uint64_t any_call(uint32_t which, uint32_t reg, uint8_t byte, uint32_t k)
 {
@@ -842,6 +880,7 @@ static uint64_t any_call(uint32_t which, uint32_t reg, uint8_t byte, uint32_t k)
         any_transfers = r.transfers, any_states = r.states;
         return r.refusal + 17 * r.reason + 97 * services + 1009 * r.transfers + 10007 * r.used + 100003 * r.written;
     }
+    case 8: return any_judging(byte, k);
     default: {
         const am9517_run_told r = run_all(k, 0);
         any_transfers = r.transfers, any_states = r.states;
@@ -857,7 +896,7 @@ static void alike(void)
     for (size_t i = 0; i < MEMORY; i++)
         at.memory[i] = (uint8_t)(i * 31 + i / 253);
     for (unsigned turn = 0; turn < 3000; turn++) {
-        const uint32_t which = drawn(12), reg = drawn(17), k = drawn(20);
+        const uint32_t which = drawn(13), reg = drawn(17), k = drawn(20);
         const uint8_t byte = (uint8_t)drawn(256);
         draw_chip(chip);
         chip->waits = (uint8_t)drawn(256);
@@ -874,6 +913,288 @@ static void alike(void)
                "both editions leave the same bytes", which);
     }
     expect(guards(), "guards of both editions", 0);
+}
+
+/* ---- logs: honest ones */
+
+static uint8_t logged[(MEMORY + 1) * RECORD];
+
+static void found(am9517_judge_told j, size_t right, int32_t error, const char *what)
+{
+    expect(j.refusal == AM9517_OK && j.right == right, what, (unsigned long)j.right);
+    expect(j.error == error, what, (unsigned long)(uint32_t)j.error);
+}
+
+/* The log of the service that is open in `at`; what its runs leave stands in `after`. */
+static size_t honest(size_t most, size_t eop_at)
+{
+    before = after = at;
+    return honest_log(&after.chip, after.memory, most, eop_at, logged);
+}
+
+/* Chip and memory are those that the runs left, and nothing else was touched. */
+static void as_run(const char *what, unsigned long which)
+{
+    expect(same_chip(chip, &after.chip) && memcmp(at.memory, after.memory, sizeof at.memory) == 0, what, which);
+    expect(guards() && memcmp(at.room, before.room, sizeof at.room) == 0 && memcmp(at.sheet, before.sheet, sizeof at.sheet) == 0, what, which);
+}
+
+/* Judged in two parts, wherever it is cut between two records. */
+static void in_parts(size_t size)
+{
+    for (size_t cut = 0; cut <= size; cut += RECORD) {
+        at = before;
+        found(judge_all(cut ? logged : NULL, cut), cut, 0, "the first part");
+        expect(cut == size || chip->in_service == 1, "open between two parts", (unsigned long)cut);
+        if (cut < size)
+            found(judge_all(logged + cut, size - cut), size - cut, 0, "the second part");
+        as_run("two parts are the whole", (unsigned long)cut);
+    }
+}
+
+/* A log whose last record is cut is right up to it; one with bytes behind the end of the service up to the end. */
+static void cut_and_behind(size_t size)
+{
+    for (size_t rest = 1; rest < RECORD; rest++) {
+        at = before;
+        found(judge_all(logged, size - rest), size - RECORD, 0, "a cut record");
+    }
+    if (after.chip.in_service)
+        return;
+    memcpy(logged + size, logged + size - RECORD, RECORD);
+    for (size_t more = 1; more <= RECORD; more++) {
+        at = before;
+        found(judge_all(logged, size + more), size, 0, "bytes behind the end");
+        as_run("the service is over", (unsigned long)more);
+    }
+    expect(judge_alone(judge_all(logged + size, RECORD)) == AM9517_NO_SERVICE, "a part behind the end", 8);
+    as_run("which changes nothing", 8);
+}
+
+/* The log of the service that is open is accepted, whole and in parts, and leaves what its runs leave. */
+static void accepted(size_t most, size_t eop_at, const char *what)
+{
+    static uint8_t copy[64 * RECORD];
+    const size_t size = honest(most, eop_at);
+    memcpy(copy, logged, size);
+    expect(size > 0, what, (unsigned long)most);
+    found(judge_all(logged, size), size, 0, what);
+    as_run(what, (unsigned long)size);
+    in_parts(size);
+    cut_and_behind(size);
+    expect(memcmp(copy, logged, size) == 0, "the log is only looked at", (unsigned long)size);
+}
+
+static void patterned(void)
+{
+    for (size_t i = 0; i < MEMORY; i++)
+        at.memory[i] = (uint8_t)(i * 31 + i / 253);
+}
+
+static void honest_logs(void)
+{
+    static const uint8_t kinds[] = {0x00, 0x40, 0x80}, ways[] = {0x00, 0x04, 0x08}, others[] = {0x00, 0x10, 0x20, 0x30};
+    for (int i = 0; i < 36; i++)
+        for (size_t eop_at = 0; eop_at < 4; eop_at++) {
+            lined(i % 4, (uint8_t)(kinds[i % 3] | ways[i / 3 % 3] | others[i / 9]), (uint16_t)(eop_at == 3 ? 2 : 5));
+            patterned();
+            chip->channels[i % 4].address = (uint16_t)(eop_at == 1 ? 0xffff : 0x12ff);
+            accepted(9, eop_at, "an honest log");
+            for (size_t most = 1; most < 3; most++) {  /* before the first page is left, and behind it */
+                at = before;
+                accepted(most, 0, "one that stops early");
+            }
+        }
+}
+
+/* Memory-to-memory from a to a + 1 or apart, held or not, channel 0's area so many bytes, up and down. */
+static void honest_copies(void)
+{
+    static const uint8_t modes[] = {0x88, 0x98, 0xa8, 0xb8, 0xc0, 0x44};
+    for (int i = 0; i < 6; i++)
+        for (unsigned k = 0; k < 8; k++) {
+            begin();
+            patterned();
+            chip->command = (uint8_t)(1 | (k & 2));
+            chip->channels[0] = channel_of(0x12fe, 0x12fe, (uint16_t)(k & 3), (uint16_t)(k & 3), modes[i]);
+            chip->channels[1] = channel_of(0x4321, (uint16_t)(k & 1 ? 0x12ff : 0xfffe), 9, 7, k & 4 ? 0xa4 : 0x94);
+            chip->mask = 0;
+            chip->pins = 1;
+            expect(am9517_grant(chip).value == 0, "grant of a copy", k);
+            accepted(12, k == 5 ? 3 : 0, "an honest copy");
+        }
+}
+
+/* 65,536 records, to memory and from memory to memory, the last of which ends the service. */
+static void longest_logs(void)
+{
+    for (int copies = 0; copies < 2; copies++) {
+        opened(copies ? 0x98 : 0x84, 99);
+        patterned();
+        chip->command = (uint8_t)copies;
+        chip->channels[copies].count = 0xffff;
+        chip->channels[1].mode = 0x84;
+        const size_t size = honest(MEMORY + 1, 0);
+        expect(size == (size_t)MEMORY * RECORD && logged[size - 1] == 5, "65,536 records", (unsigned long)size);
+        found(judge_all(logged, size + 3), size, 0, "the longest log");
+        as_run("all of the memory", (unsigned long)copies);
+    }
+}
+
+/* ---- logs: wrong ones */
+
+/* So many records of a block write of channel 1, which has a count of 11: the first at this address, the others as claimed. */
+static size_t claimed(uint16_t first, const uint16_t *others, size_t n)
+{
+    lined(1, 0x84, 11);
+    chip->channels[1].address = first;
+    before = at;
+    for (size_t i = 0; i < n; i++) {
+        const uint16_t address = i == 0 ? first : others[i - 1];
+        const uint8_t record[RECORD] = {1, 1, (uint8_t)(address & 255), (uint8_t)(address >> 8), 0, 0, (uint8_t)(0x40 + i), 0};
+        memcpy(logged + i * RECORD, record, RECORD);
+    }
+    return n * RECORD;
+}
+
+/* A vendor takes a count of 11 for eleven transfers: the eleventh has TC and last of service. */
+static void eleven(void)
+{
+    static const uint16_t addresses[] = {0x1235, 0x1236, 0x1237, 0x1238, 0x1239, 0x123a, 0x123b, 0x123c, 0x123d, 0x123e, 0x123f};
+    const size_t size = claimed(0x1234, addresses, 11);
+    logged[size - 1] = 5;
+    found(judge_all(logged, size), 80, 0, "eleven with TC in the eleventh");
+    expect(chip->in_service == 1 && chip->channels[1].count == 1 && chip->channels[1].address == 0x123e, "ten were made", chip->channels[1].count);
+    expect(at.memory[0x1234] == 0x40 && at.memory[0x123d] == 0x49 && at.memory[0x123e] == 0x55, "ten bytes", at.memory[0x123e]);
+    logged[size - 1] = 0;
+    at = before;
+    found(judge_all(logged, size), 88, 0, "eleven that stop early");
+    expect(chip->in_service == 1 && chip->channels[1].count == 0 && at.memory[0x123e] == 0x4a, "eleven were made", chip->channels[1].count);
+    claimed(0x1234, addresses, 12);
+    found(judge_all(logged, 12 * RECORD), 88, 0, "the twelfth without TC");
+    logged[12 * RECORD - 1] = 5;
+    at = before;
+    found(judge_all(logged, 12 * RECORD), 96, 0, "twelve with TC in the twelfth");
+    expect(chip->in_service == 0 && chip->tc == 15 && guards(), "the service is over", chip->tc);
+}
+
+/* A carry that is lost, a step in the wrong direction, and the farthest claims. */
+static void turnovers(void)
+{
+    static const struct { uint16_t first, then; uint8_t down; int32_t error; } claims[] = {
+        {0x12ff, 0x1200, 0, -256}, {0xffff, 0xff00, 0, -256}, {0x1300, 0x13ff, 1, 256}, {0x0000, 0x00ff, 1, 256},
+        {0x1234, 0x1234, 0, -1},   {0x1234, 0x1236, 0, 1},    {0x1234, 0x1233, 0, -2},  {0x0000, 0xffff, 0, -2},
+        {0x7fff, 0x0000, 0, -32768}, {0x0fff, 0x9000, 0, -32768}, {0x0fff, 0x8fff, 0, 32767}, {0xffff, 0x8000, 0, -32768}};
+    for (size_t i = 0; i < sizeof claims / sizeof claims[0]; i++) {
+        const size_t size = claimed(claims[i].first, &claims[i].then, 2);
+        chip->channels[1].mode = (uint8_t)(claims[i].down ? 0xa4 : 0x84);
+        found(judge_all(logged, size), RECORD, claims[i].error, "a wrong turnover");
+        expect(chip->channels[1].count == 10 && chip->in_service == 1, "one was made", chip->channels[1].count);
+    }
+    claimed(0x1234, NULL, 1);
+    for (uint32_t address = 0; address < MEMORY; address++) {
+        const uint32_t apart = (address - 0x1234) & 0xffff;
+        logged[2] = (uint8_t)(address & 255);
+        logged[3] = (uint8_t)(address >> 8);
+        if (apart != 0)
+            found(judge_all(logged, RECORD), 0, apart < 32768 ? (int32_t)apart : (int32_t)apart - 65536, "every address");
+    }
+    all_stay("wrong at the first record", 0);
+}
+
+/* One byte of the next record of the open service changed to every other: right exactly where the rules make that record of the
+ * device's byte and the EOP that it tells. */
+static void one_byte(const char *what)
+{
+    uint8_t good[RECORD], record[RECORD], want[RECORD];
+    before = at;
+    next_record(chip, at.memory, 0x5a, 0, good);
+    for (unsigned all = 0; all < 256 * RECORD; all++) {
+        memcpy(record, good, RECORD);
+        record[all >> 8] = (uint8_t)(all & 255);
+        next_record(&before.chip, before.memory, record[6], record[7] >> 1 & 1, want);
+        const uint32_t apart = (record[2] + 256u * record[3] - want[2] - 256u * want[3]) & 0xffff;
+        const am9517_judge_told j = judge_all(record, RECORD);
+        if (memcmp(record, want, RECORD) != 0) {
+            found(j, 0, apart < 32768 ? (int32_t)apart : (int32_t)apart - 65536, what);
+            continue;
+        }
+        found(j, RECORD, 0, what);
+        after = before;
+        const uint8_t byte = record[6];
+        uint8_t out[1];
+        am9517_run(&after.chip, after.memory, MEMORY, &byte, 1, out, 1, 1, record[7] >> 1 & 1);
+        as_run(what, all);
+        at = before;
+    }
+    all_stay(what, 1);
+}
+
+static void changed_records(void)
+{
+    static const uint8_t modes[] = {0x84, 0x88, 0x80, 0x44, 0x48, 0x40, 0x04, 0xb4};
+    for (uint16_t i = 0; i < 16; i++) {
+        lined(i % 4, modes[i / 2], (uint16_t)(i % 2 ? 0 : 3));
+        patterned();
+        one_byte("a changed record");
+    }
+    opened(0x88, 3);
+    chip->command = 1;
+    chip->channels[1] = channel_of(0x4321, 0x4321, 3, 3, 0x84);
+    patterned();
+    one_byte("a changed copy");
+}
+
+/* EOP in the log ends the service; in an Intel chip it sets the TC bit, and bit 0 of the flags is the count's alone in both. */
+static void eop_flags(void)
+{
+    static const uint16_t next[] = {0x1235, 0x1236};
+    const size_t size = claimed(0x1234, next, 3);
+    for (unsigned flags = 1; flags < 256; flags++) {
+        at = before;
+        logged[2 * RECORD - 1] = (uint8_t)flags;
+        found(judge_all(logged, size), flags == 6 ? 2 * RECORD : RECORD, 0, "flags in the middle");
+        expect(chip->in_service == (flags != 6) && chip->tc == (flags == 6 && intel() ? 15 : 13), "EOP ends it", chip->tc);
+    }
+}
+
+/* Cascade and a dropped line: whatever the record says, it is wrong with error 0, and nothing changes. */
+static void no_transfers(void)
+{
+    static const uint8_t modes[] = {0xc0, 0xc4, 0xdc, 0x04, 0x08, 0x00};
+    for (int i = 0; i < 12; i++) {
+        lined(i % 4, modes[i / 2], 3);
+        if (i >= 6 || i % 2)
+            am9517_pins(chip, 0);
+        before = at;
+        next_record(chip, at.memory, 0x5a, 0, logged);
+        found(judge_all(logged, RECORD), 0, 0, "no transfer is made");
+        logged[3] ^= 0x80;
+        found(judge_all(logged, RECORD), 0, 0, "nor at another address");
+        found(judge_all(NULL, 0), 0, 0, "no record, and none is wrong");
+        expect(chip->in_service == 1, "the service stays open", (unsigned long)i);
+        all_stay("no transfer", (unsigned long)i);
+        if (i < 6)
+            continue;
+        am9517_pins(chip, 15);
+        logged[3] ^= 0x80;
+        found(judge_all(logged, RECORD), RECORD, 0, "the line is back");
+    }
+}
+
+static void refused_logs(void)
+{
+    opened(0x84, 3);
+    refused(judge_over(0, RECORD), AM9517_MEMORY_LENGTH, "judge over no memory");
+    refused(judge_over(65535, RECORD), AM9517_MEMORY_LENGTH, "judge over 65,535");
+    refused(judge_over(65537, RECORD), AM9517_MEMORY_LENGTH, "judge over 65,537");
+    refused(judge_over(65537, 0), AM9517_MEMORY_LENGTH, "judge of nothing over 65,537");
+    found(judge_all(NULL, 0), 0, 0, "an empty log");
+    found(judge_all(first_record, 7), 0, 0, "seven bytes");
+    all_stay("nothing was made", 0);
+    begin();
+    refused(judge_alone(judge_all(first_record, RECORD)), AM9517_NO_SERVICE, "judge while idle");
+    refused(judge_alone(judge_all(NULL, 0)), AM9517_NO_SERVICE, "judge of nothing while idle");
 }
 
 /* ---- wait states: the call */
@@ -1216,7 +1537,7 @@ static void as_fast(void)
     for (size_t i = 0; i < MEMORY; i++)
         at.memory[i] = (uint8_t)(i * 31 + i / 253);
     for (unsigned turn = 0; turn < 1000; turn++) {
-        const uint32_t which = drawn(12), reg = drawn(17), k = drawn(20);
+        const uint32_t which = drawn(13), reg = drawn(17), k = drawn(20);
         const uint8_t byte = (uint8_t)drawn(256);
         uint64_t more = 0;  /* states of one wait state */
         draw_chip(chip);
@@ -1679,6 +2000,14 @@ static void of_edition(uint32_t which)
     whole_memory();
     rounds();
     orders();
+    honest_logs();
+    honest_copies();
+    eleven();
+    turnovers();
+    changed_records();
+    eop_flags();
+    no_transfers();
+    refused_logs();
     bad_sheets();
     writes_of_e();
     eops();
@@ -1710,6 +2039,7 @@ int main(void)
     as_fast();
     edition = AM9517_EDITION_AM9517A;
     long_rounds();
+    longest_logs();
     texts();
     saved();
     loaded();

@@ -4,7 +4,8 @@
  * `state` and `full` show them; `sheet` and `load`, `sheet2` and `load2`, `forward` and `back` are the library's. The chip stands
  * between guard bytes. After each command what the looking calls say is held to what the operations say of a copy, and a chip in
  * its ranges must come back whole out of its own sheet of either form; an Intel chip or one with waits, which has none of form 1,
- * must be refused by 15, and as an Am9517A without waits come back out of that one's, which converts both ways. */
+ * must be refused by 15, and as an Am9517A without waits come back out of that one's, which converts both ways. An empty log is
+ * judged as a run of no transfer is refused, or not. */
 #include <stdio.h>
 #include <stdlib.h>
 #include <string.h>
@@ -204,6 +205,19 @@ static void look_at_waits(uint32_t wrong)
         fail("waits set something else");
 }
 
+/* An empty log is accepted where a run isn't refused, and leaves a copy as it is. */
+static void look_at_logs(uint32_t wrong)
+{
+    uint8_t mine[FULL], theirs[FULL];
+    am9517_chip copy = *chip;
+    const uint32_t want = wrong != AM9517_OK ? wrong : lent != AM9517_MEMORY_SIZE ? AM9517_MEMORY_LENGTH : chip->in_service ? AM9517_OK : AM9517_NO_SERVICE;
+    const am9517_judge_told told = am9517_judge(&copy, memory, lent, NULL, 0);
+    get_full(chip, mine);
+    get_full(&copy, theirs);
+    if (told.refusal != want || told.right != 0 || told.error != 0 || memcmp(mine, theirs, FULL) != 0)
+        fail("an empty log says something");
+}
+
 /* What the looking calls say, held to what the operations say of a copy. */
 static void look(void)
 {
@@ -212,6 +226,7 @@ static void look(void)
     if (entitled.refusal != wrong || status.refusal != wrong)
         fail("two calls see different chips");
     look_at_waits(wrong);
+    look_at_logs(wrong);
     if (wrong != AM9517_OK)
         return;
     look_at_sheet();
@@ -488,6 +503,20 @@ static int command_round(void)
     return 1;
 }
 
+static int command_judge(void)
+{
+    if (!hex(words[1]))
+        return 0;
+    const am9517_judge_told told = am9517_judge(chip, memory, lent, given, given_size);
+    if (refused(told.refusal))
+        return 1;
+    if (told.right == given_size)
+        printf("accepted records=%lu\n", (unsigned long)(told.right / AM9517_RECORD_SIZE));
+    else
+        printf("wrong at=%lu error=%d\n", (unsigned long)told.right, (int)told.error);
+    return 1;
+}
+
 static int command_sheet(uint32_t (*save)(const am9517_chip *, uint8_t *, size_t))
 {
     uint64_t n;
@@ -592,6 +621,7 @@ static int obey(void)
            : is("room", 3)    ? command_room()
            : is("run", 3)     ? command_run()
            : is("round", 2)   ? command_round()
+           : is("judge", 2)   ? command_judge()
            : is("sheet", 2)   ? command_sheet(am9517_save)
            : is("load", 2)    ? command_load(am9517_load)
            : is("sheet2", 2)  ? command_sheet(am9517_save2)

@@ -6,8 +6,9 @@
 #include <sys/mman.h>
 
 #include "am9517.h"
+#include "record.h"
 
-enum { PAGE = 4096, MEMORY = AM9517_MEMORY_SIZE, MOST = 300, TURNS = 6000 };
+enum { PAGE = 4096, MEMORY = AM9517_MEMORY_SIZE, MOST = 300, TURNS = 6500 };
 
 /* ---- areas: one fenced, one free, of the same bytes; the free one begins anywhere, a chip at an even place */
 
@@ -90,7 +91,7 @@ static void draw_chip(am9517_chip *chip)
 
 /* ---- the calls, on the fenced make or on the free one */
 
-static struct area chip, memory, device, room, sheet, target;
+static struct area chip, memory, device, room, sheet, target, logged;
 
 struct numbers {
     uint32_t which, reg, k;
@@ -98,14 +99,14 @@ struct numbers {
     uint64_t limit, eop;
 };
 
-enum { FORWARD = 11, BACK = 12, CALLS = 17 };
+enum { FORWARD = 11, BACK = 12, JUDGE = 13, CALLS = 18 };
 
 static uint64_t call(int fenced, const struct numbers *n)
 {
     am9517_chip *c = (am9517_chip *)(void *)(fenced ? chip.at : chip.loose);
     uint8_t *m = fenced ? memory.at : memory.loose, *r = fenced ? room.at : room.loose, *s = fenced ? sheet.at : sheet.loose;
     uint8_t *t = fenced ? target.at : target.loose;
-    const uint8_t *d = fenced ? device.at : device.loose;
+    const uint8_t *d = fenced ? device.at : device.loose, *l = fenced ? logged.at : logged.loose;
     switch (n->which) {
     case 0: return am9517_write(c, n->reg, n->byte);
     case 1: return am9517_read(c, n->reg).value;
@@ -123,6 +124,10 @@ static uint64_t call(int fenced, const struct numbers *n)
     case 10: return am9517_save2(c, s, sheet.size) + 16 * am9517_load2(c, s, sheet.size);
     case FORWARD: return am9517_save(c, s, sheet.size) + 16 * am9517_forward(s, sheet.size, t, target.size);
     case BACK: return am9517_save2(c, s, sheet.size) + 16 * am9517_back(s, sheet.size, t, target.size);
+    case JUDGE: {
+        const am9517_judge_told o = am9517_judge(c, m, memory.size, l, logged.size);
+        return o.refusal + 3 * o.right + 5 * (uint64_t)(uint32_t)o.error;
+    }
     default: {
         const am9517_run_told o = am9517_run(c, m, memory.size, d, device.size, r, room.size, n->limit, n->eop);
         return o.refusal + o.reason + o.transfers + 3 * o.used + 5 * o.written + 7 * o.states;
@@ -138,6 +143,18 @@ static int same_chip(void)
         if (memcmp(chip.at + n * sizeof(am9517_channel), chip.loose + n * sizeof(am9517_channel), 9) != 0)
             return 0;
     return memcmp(chip.at + tc, chip.loose + tc, offsetof(am9517_chip, waits) + 1 - tc) == 0;
+}
+
+/* A log of the chip's service over the memory that is lent next, honest but for a byte at times; its bytes, the last ones cut at times. */
+static size_t draw_log(const am9517_chip *start, size_t shift)
+{
+    static uint8_t scratch[MEMORY];
+    am9517_chip copy = *start;
+    memcpy(scratch, memory.loose, MEMORY);
+    const size_t size = honest_log(&copy, scratch, drawn(30), drawn(40), logged.free + shift);
+    if (size > 0 && drawn(3) == 0)
+        logged.free[shift + drawn((uint32_t)size)] = (uint8_t)drawn(256);
+    return drawn(3) == 0 ? drawn((uint32_t)size + 9) : size;
 }
 
 static int turn(uint32_t i)
@@ -157,14 +174,17 @@ static int turn(uint32_t i)
     placed(&room, drawn(MOST), i >> 3 & 1, drawn(16));
     placed(&sheet, 50 + drawn(20), i >> 4 & 1, drawn(16));
     placed(&target, 50 + drawn(20), i >> 5 & 1, drawn(16));
+    const uint32_t shift = drawn(16);
+    placed(&logged, n.which == JUDGE ? draw_log(&now, shift) : 0, i >> 2 & 1, shift);
     const uint64_t fenced = call(1, &n), free = call(0, &n);
-    return fenced == free && same_chip() && same(&memory) && same(&device) && same(&room) && same(&sheet) && same(&target);
+    return fenced == free && same_chip() && same(&memory) && same(&device) && same(&room) && same(&sheet) && same(&target) && same(&logged);
 }
 
 int main(void)
 {
     unsigned wrong = 0;
-    if (!made(&chip, PAGE) || !made(&memory, MEMORY) || !made(&device, PAGE) || !made(&room, PAGE) || !made(&sheet, PAGE) || !made(&target, PAGE))
+    if (!made(&chip, PAGE) || !made(&memory, MEMORY) || !made(&device, PAGE) || !made(&room, PAGE) || !made(&sheet, PAGE) || !made(&target, PAGE)
+        || !made(&logged, PAGE))
         return 2;
     for (size_t i = 0; i < MEMORY; i++)
         memory.free[i] = (uint8_t)(i * 31 + i / 253);

@@ -1,19 +1,21 @@
 /* Several threads at once: each with a chip, of either edition and with changing waits, and a memory of its own, which must end as
- * alone; and all looking at one chip and at its sheet. */
+ * alone; and all looking at one chip, at its sheet and at one log. */
 #include <pthread.h>
 #include <stdio.h>
 #include <stdlib.h>
 #include <string.h>
 
 #include "am9517.h"
+#include "record.h"
 
 enum { THREADS = 4, STEPS = 400 };
 
 static const am9517_chip shared = {
     {{1, 2, 3, 4, 0x84}, {5, 6, 7, 8, 0x44}, {9, 10, 11, 12, 0}, {13, 14, 15, 16, 0xc0}}, 1, 0, 14, 3, 1, 0, 1, 0x12, 2, 0, 0, 0x5a, 0x10, 0};
 
-/* Its sheet of form 1, made before the threads begin. */
+/* Its sheet of form 1, made before the threads begin, and the log of its service over a memory of zeros. */
 static uint8_t source[AM9517_SHEET_SIZE];
+static uint8_t logged[5 * AM9517_RECORD_SIZE];
 
 struct job {
     uint32_t seed;
@@ -40,6 +42,16 @@ static void convert(struct job *job, const uint8_t *sheet)
         job->wrong++;
     if (memcmp(two, stored, sizeof two) != 0 || am9517_back(stored, sizeof stored, one, sizeof one) != 0 || memcmp(one, sheet, sizeof one) != 0)
         job->wrong++;
+}
+
+/* Each with a chip and a memory of its own, out of a log that all threads look at. */
+static uint64_t judged(struct job *job, uint8_t *memory)
+{
+    am9517_chip chip = shared;
+    const am9517_judge_told told = am9517_judge(&chip, memory, AM9517_MEMORY_SIZE, logged, sizeof logged);
+    if (told.refusal != 0 || told.right != sizeof logged || told.error != 0 || chip.in_service != 0 || memory[2] != logged[6])
+        job->wrong++;
+    return told.right;
 }
 
 static void look(struct job *job)
@@ -81,6 +93,7 @@ static void *work(void *given)
     for (int i = 0; i < STEPS && memory != NULL; i++) {
         job->sum = folded(job->sum, step(&chip, memory, &seed));
         look(job);
+        job->sum = folded(job->sum, judged(job, memory));
     }
     for (size_t i = 0; i < AM9517_MEMORY_SIZE && memory != NULL; i++)
         job->sum = folded(job->sum, memory[i]);
@@ -92,7 +105,10 @@ int main(void)
 {
     struct job at_once[THREADS], alone[THREADS];
     pthread_t threads[THREADS];
+    static uint8_t memory[AM9517_MEMORY_SIZE];
+    am9517_chip chip = shared;
     unsigned wrong = am9517_save(&shared, source, sizeof source) != 0;
+    wrong += honest_log(&chip, memory, 5, 0, logged) != sizeof logged;
     for (uint32_t i = 0; i < THREADS; i++) {
         at_once[i].seed = alone[i].seed = i + 1;
         at_once[i].wrong = alone[i].wrong = 0;

@@ -24,6 +24,7 @@ static_assert(std::is_convertible_v<Bytes, ConstBytes> && !std::is_convertible_v
 static_assert(noexcept(std::declval<Chip &>().run({}, {}, {})) && noexcept(Chip()) && noexcept(Chip(Edition::am9517a)), "nothing throws");
 static_assert(noexcept(std::declval<Chip &>().waits(1)) && sizeof(am9517::Run::states) == 8 && sizeof(am9517::Round::states) == 8, "states in 64 bits");
 static_assert(noexcept(std::declval<Chip &>().load2({})) && noexcept(am9517::back({}, {})) && noexcept(am9517::forward({})), "nor do sheets");
+static_assert(noexcept(std::declval<Chip &>().judge({}, {})) && std::is_same_v<decltype(am9517::Judged::error), std::int32_t>, "nor does a log");
 static_assert(sizeof(am9517::Sheet) == 56 && sizeof(am9517::Sheet2) == 58, "a sheet of each form");
 static_assert(!std::is_convertible_v<Edition, Chip> && !std::is_convertible_v<int, Edition>, "an edition is no chip, a number no edition");
 
@@ -223,6 +224,34 @@ static void ways()
     expect(am9517::back(one).refusal() == Refusal::sheet_short && am9517::back({}).refusal() == Refusal::sheet_short, "of form 1");
 }
 
+// Channel 0's block write of four bytes, as another replica logs it.
+static void logs()
+{
+    static am9517::Memory memory;
+    std::vector<std::uint8_t> log;
+    for (std::uint8_t i = 0; i < 4; i++)
+        log.insert(log.end(), {0, 1, i, 0, 0, 0, static_cast<std::uint8_t>(0x60 + i), static_cast<std::uint8_t>(i == 3 ? 5 : 0)});
+    Chip chip = opened(0x84);
+    const Chip start = chip;
+    const auto whole = chip.judge(memory, log);
+    expect(whole.ok() && whole->accepted && whole->right == 32 && whole->error == 0 && chip.fields().in_service == 0, "an honest log");
+    expect(memory[3] == 0x63 && chip.fields().tc == 1 && chip.fields().channels[0].count == 0xffff, "what it made");
+    const auto idle = chip.judge(memory, log);
+    expect(idle.refusal() == Refusal::no_service && !idle->accepted && idle->right == 0, "no service open");
+    Chip parts = start;
+    expect(parts.judge(memory, {})->accepted && parts == start, "an empty part");
+    expect(parts.judge(memory, ConstBytes(log.data(), 16))->accepted && parts.fields().in_service == 1, "the first part");
+    expect(parts.judge(memory, ConstBytes(log).after(16))->accepted && parts == chip, "and the second");
+    expect(Chip(start).judge({}, log).refusal() == Refusal::memory_length, "no memory");
+    log[17 + 2] = 0x80;
+    Chip other = start;
+    const auto far = other.judge(memory, log);
+    expect(far.ok() && !far->accepted && far->right == 16 && far->error == -32768, "8000h apart");
+    expect(ConstBytes(log).after(far->right).size() == 16 && other.fields().channels[0].count == 1, "what goes back to the vendor");
+    log.resize(13);
+    expect((other = start).judge(memory, log)->right == 8, "a cut record");
+}
+
 int main()
 {
     spans();
@@ -231,6 +260,7 @@ int main()
     runs();
     waits();
     rounds();
+    logs();
     sheets();
     second_sheets();
     ways();

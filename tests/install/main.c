@@ -15,10 +15,22 @@ static int stored(const am9517_chip *chip)
     return am9517_load2(&other, again, sizeof again) == AM9517_OK && other.edition == chip->edition && other.mask == chip->mask;
 }
 
+/* A log of the open service: its one record is right and ends it. */
+static int judged(void)
+{
+    static uint8_t memory[AM9517_MEMORY_SIZE];
+    static const uint8_t log[AM9517_RECORD_SIZE] = {0, 1, 0, 0, 0, 0, 0x5a, 5};
+    am9517_chip chip = am9517_fresh(AM9517_EDITION_AM9517A);
+    chip.channels[0].mode = 0x84;
+    chip.in_service = 1;
+    const am9517_judge_told told = am9517_judge(&chip, memory, sizeof memory, log, sizeof log);
+    return told.refusal == AM9517_OK && told.right == sizeof log && told.error == 0 && memory[0] == 0x5a && chip.in_service == 0;
+}
+
 int main(void)
 {
     am9517_chip chip = am9517_fresh(AM9517_EDITION_AM9517A);
     const am9517_told grant = am9517_grant(&chip);
     printf("library %u, header %u: %s\n", (unsigned)am9517_version(), (unsigned)AM9517_VERSION, am9517_refusal_text(grant.refusal));
-    return am9517_version() == AM9517_VERSION && grant.refusal == AM9517_NOBODY && stored(&chip) ? 0 : 1;
+    return am9517_version() == AM9517_VERSION && grant.refusal == AM9517_NOBODY && stored(&chip) && judged() ? 0 : 1;
 }

@@ -10,5 +10,7 @@ int main()
     const auto sheet = chip.sheet2();
     const auto again = am9517::forward(am9517::back(sheet.value()).value());
     const bool stored = sheet.ok() && again.ok() && sheet.value() == again.value();
-    return am9517::version() == AM9517_VERSION && grant.refusal() == am9517::Refusal::nobody && stored ? 0 : 1;
+    static am9517::Memory memory;
+    const bool idle = chip.judge(memory, {}).refusal() == am9517::Refusal::no_service;
+    return am9517::version() == AM9517_VERSION && grant.refusal() == am9517::Refusal::nobody && stored && idle ? 0 : 1;
 }

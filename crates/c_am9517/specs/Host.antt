@@ -17,11 +17,13 @@ use Rattle.am9517_sheet.specs.Sheet.{Stored, sheetRefusalNumber}
 use Rattle.c_am9517.specs.declared.Told.{Told}
 use Rattle.c_am9517.specs.declared.RunTold.{RunTold}
 use Rattle.c_am9517.specs.declared.RoundTold.{RoundTold}
-use Rattle.c_am9517.specs.Numbers.{told, toldOf, runToldOf, roundToldOf}
+use Rattle.c_am9517.specs.declared.JudgeTold.{JudgeTold}
+use Rattle.logs.specs.Answers.{JudgeGiven}
+use Rattle.c_am9517.specs.Numbers.{told, toldOf, runToldOf, roundToldOf, judgeToldOf}
 
 -- major * 10000 + minor * 100 + patch
 abbrev pub version : ℕ
-version = 40100
+version = 40200
 
 -- a look is refused by 1, "the state breaks a range of the sheet section", and shows nothing then
 abbrev pub lookGrounds : Controller → List (Ground ℕ)
@@ -82,3 +84,15 @@ roundLeft s t m r = record { chip = s; said = t; memory = m; room = r }
 
 abbrev pub roundCallOf : RoundGiven → RoundLeft
 roundCallOf g = roundLeft (g .rounded .controller) (roundToldOf (g .rounded)) (g .memory) (g .room)
+
+-- A log of this size, judged, and the memory that its good records leave.
+pub record JudgeLeft : Type 0 where
+  pub chip : Controller
+  pub said : JudgeTold
+  pub memory : List ℕ
+
+abbrev pub judgeLeft : Controller → JudgeTold → List ℕ → JudgeLeft
+judgeLeft s t m = record { chip = s; said = t; memory = m }
+
+abbrev pub judgeCallOf : ℕ → JudgeGiven → JudgeLeft
+judgeCallOf size g = judgeLeft (g .judged .controller) (judgeToldOf size (g .judged .verdict)) (g .memory)

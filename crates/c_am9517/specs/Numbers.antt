@@ -1,6 +1,7 @@
 -- What stands for an edition and for an answer in C. A refusal's number is document 01's, 0 for none.
 use Prim.Native.Nat.{ℕ}
 use lib.Dec.{ltb}
+use lib.IntN.{pos}
 use Rattle.words.specs.Choice.{when}
 use Rattle.am9517.specs.Answers.{refusalNumber}
 use Rattle.am9517.specs.declared.Answer.{Answer}
@@ -18,6 +19,9 @@ use Rattle.am9517_service.specs.declared.Rounded.{Rounded}
 use Rattle.c_am9517.specs.declared.Told.{Told}
 use Rattle.c_am9517.specs.declared.RunTold.{RunTold}
 use Rattle.c_am9517.specs.declared.RoundTold.{RoundTold}
+use Rattle.c_am9517.specs.declared.JudgeTold.{JudgeTold}
+use Rattle.logs.specs.declared.Verdict.{Verdict}
+use Rattle.logs.specs.declared.Verdict.the-variants.{Accepted, Wrong, Refused}
 
 -- the state's byte for the edition that a host asks for: a number over 255 is 255, which is no edition either
 unfoldable pub editionByte : ℕ → ℕ
@@ -77,3 +81,9 @@ roundToldOf r =
       written = r .totals .written;
       states = r .totals .states;
     }
+
+-- a log of this size: how many of its bytes are right, and the address error of the record behind them; 0 beside a refusal
+abbrev pub judgeToldOf : ℕ → Verdict → JudgeTold
+judgeToldOf size Accepted = record { refusal = 0; error = pos 0; right = size }
+judgeToldOf size (Wrong at error) = record { refusal = 0; error = error; right = at }
+judgeToldOf size (Refused n) = record { refusal = n; error = pos 0; right = 0 }

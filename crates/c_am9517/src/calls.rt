@@ -1,8 +1,10 @@
 // What each call does with a chip by value: the next chip, and the answer in numbers.
+use crate::JudgeTold;
 use crate::RoundTold;
 use crate::RunTold;
 use crate::Told;
 use crate::display::requesting_set;
+use crate::numbers::judge_told_of;
 use crate::numbers::round_told_of;
 use crate::numbers::run_told_of;
 use crate::numbers::sheet_number;
@@ -17,10 +19,12 @@ ghost use Rattle.am9517.specs.Answers.{refusalNumber, writeOf, readOf, pinsOf, 
 ghost use Rattle.am9517.specs.Serving.{entitled, setOf, status};
 ghost use Rattle.am9517_service.specs.Answers.{ranOf};
 ghost use Rattle.am9517_service.specs.RoundAnswers.{roundedOf};
+ghost use lib.ListN.{length};
+ghost use Rattle.logs.specs.Answers.{judgedOf};
 ghost use Rattle.am9517_sheet.specs.declared.forms.Form.the-variants.{One, Two};
 ghost use Rattle.am9517_sheet.specs.Sheet.{sheetWriteOf, sheetReadOf};
 ghost use Rattle.c_am9517.specs.Numbers.{told};
-ghost use Rattle.c_am9517.specs.Host.{lookOf, left, callOf, loadOf, saved, saveOf, runLeft, runCallOf, roundLeft, roundCallOf};
+ghost use Rattle.c_am9517.specs.Host.{lookOf, left, callOf, loadOf, saved, saveOf, runLeft, runCallOf, roundLeft, roundCallOf, judgeLeft, judgeCallOf};
 
 // The next chip, and a refusal's number, 0 for none.
 pub struct Done {
@@ -42,6 +46,11 @@ pub struct RunDone {
 pub struct RoundDone {
     pub controller: Controller,
     pub said: RoundTold,
+}
+
+pub struct JudgeDone {
+    pub controller: Controller,
+    pub said: JudgeTold,
 }
 
 // An arm for each answer: so the chip is copied once less than where the number comes first.
@@ -172,6 +181,16 @@ pub(crate) fn round(
     let controller = rounded.controller;
     let said = round_told_of(rounded);
     RoundDone { controller, said }
+}
+
+pub(crate) fn judge(c: Controller, memory: &mut [u8], log: &[u8]) -> JudgeDone
+    ensures { λ r. ⌜ judgeLeft (r .controller) (r .said) (now (memory .exit)) ≡ judgeCallOf (length (now (log .entry))) (judgedOf c (now (memory .entry)) (now (log .entry))) ⌝ }
+{
+    let judged = logs::judge(c, memory, log);
+    let controller = judged.controller;
+    let verdict = judged.verdict;
+    let said = judge_told_of(verdict, log.len());
+    JudgeDone { controller, said }
 }
 
 // Sheets: of form 1, and of form 2.

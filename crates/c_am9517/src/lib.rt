@@ -9,11 +9,13 @@ ghost use Rattle.am9517.specs.Answers.{writeOf, readOf, pinsOf, resetOf, waitsO
 ghost use Rattle.am9517.specs.Serving.{entitled, setOf, status};
 ghost use Rattle.am9517_service.specs.Answers.{ranOf};
 ghost use Rattle.am9517_service.specs.RoundAnswers.{roundedOf};
+ghost use lib.ListN.{length};
+ghost use Rattle.logs.specs.Answers.{judgedOf};
 ghost use Rattle.am9517_sheet.specs.declared.forms.Form.the-variants.{One, Two};
 ghost use Rattle.am9517_sheet.specs.Sheet.{sheetWriteOf, sheetReadOf};
 ghost use Rattle.am9517_sheet.specs.Convert.{convertOf};
 ghost use Rattle.c_am9517.specs.Numbers.{editionByte, told};
-ghost use Rattle.c_am9517.specs.Host.{version, lookOf, left, callOf, loadOf, saved, saveOf, runLeft, runCallOf, roundLeft, roundCallOf};
+ghost use Rattle.c_am9517.specs.Host.{version, lookOf, left, callOf, loadOf, saved, saveOf, runLeft, runCallOf, roundLeft, roundCallOf, judgeLeft, judgeCallOf};
 
 mod calls;
 mod display;
@@ -49,12 +51,21 @@ pub struct RoundTold {
     pub states: u64,
 }
 
+// What is found of a log: how many of its bytes are right, which are all of them where it is accepted, and the address error of the record behind
+// them.
+#[repr(C)]
+pub struct JudgeTold {
+    pub refusal: u32,
+    pub error: i32,
+    pub right: usize,
+}
+
 // The version of the library that is linked.
 #[no_mangle]
 pub extern "C" fn am9517_version() -> u32
     ensures { λ r. ⌜ r ≡ version ⌝ }
 {
-    40100
+    40200
 }
 
 // A fresh chip of this edition; one of no edition is refused by 1 in every call but a load.
@@ -163,6 +174,16 @@ pub extern "C" fn am9517_run(
     ensures { λ r. ⌜ runLeft (now (chip .exit)) r (now (memory .exit)) (now (room .exit)) ≡ runCallOf (ranOf (now (chip .entry)) (now (memory .entry)) (now (device .entry)) (now (room .entry)) limit «eop_at») ⌝ }
 {
     let done = calls::run(*chip, memory, device, room, limit, eop_at);
+    *chip = done.controller;
+    done.said
+}
+
+// The log of the open service, made by another replica, is judged.
+#[no_mangle]
+pub extern "C" fn am9517_judge(chip: &mut Controller, memory: &mut [u8], log: &[u8]) -> JudgeTold
+    ensures { λ r. ⌜ judgeLeft (now (chip .exit)) r (now (memory .exit)) ≡ judgeCallOf (length (now (log .entry))) (judgedOf (now (chip .entry)) (now (memory .entry)) (now (log .entry))) ⌝ }
+{
+    let done = calls::judge(*chip, memory, log);
     *chip = done.controller;
     done.said
 }

@@ -1,4 +1,5 @@
 // Numbers that stand for editions and answers.
+use crate::JudgeTold;
 use crate::RoundTold;
 use crate::RunTold;
 use crate::Told;
@@ -9,12 +10,13 @@ use am9517_service::RoundAnswer;
 use am9517_service::Rounded;
 use am9517_service::RunAnswer;
 use am9517_sheet::SheetAnswer;
+use logs::Verdict;
 ghost use mathlib.Core.Path.{_≡_};
 ghost use Prim.Native.Nat.{_≤_};
 ghost use Rattle.am9517_service.specs.Answers.{runRefusalNumber};
 ghost use Rattle.am9517_service.specs.RoundAnswers.{roundRefusalNumber};
 ghost use Rattle.am9517_sheet.specs.Sheet.{sheetRefusalNumber};
-ghost use Rattle.c_am9517.specs.Numbers.{editionByte, reasonOf, runReasonOf, roundReasonOf, toldOf, runToldOf, roundToldOf};
+ghost use Rattle.c_am9517.specs.Numbers.{editionByte, reasonOf, runReasonOf, roundReasonOf, toldOf, runToldOf, roundToldOf, judgeToldOf};
 
 // A refusal's number and a reason's.
 pub struct Pair {
@@ -147,5 +149,28 @@ pub(crate) fn round_told_of(rounded: Rounded) -> RoundTold
         used: rounded.totals.used,
         written: rounded.totals.written,
         states: rounded.totals.states,
+    }
+}
+
+// What is found of a log of this size.
+pub(crate) fn judge_told_of(verdict: Verdict, size: usize) -> JudgeTold
+    ensures { λ r. ⌜ r ≡ judgeToldOf size verdict ⌝ }
+{
+    match verdict {
+        Verdict::Accepted => JudgeTold {
+            refusal: 0,
+            error: 0,
+            right: size,
+        },
+        Verdict::Wrong { at, error } => JudgeTold {
+            refusal: 0,
+            error,
+            right: at,
+        },
+        Verdict::Refused(n) => JudgeTold {
+            refusal: wide(n),
+            error: 0,
+            right: 0,
+        },
     }
 }
