@@ -3,6 +3,7 @@ use Prim.Native.Nat.{ℕ, suc, _≤_}
 use mathlib.Core.Path.{_≡_, refl, sym, ap, subst, _∙_}
 use mathlib.Core.Bool.{Bool, true, false, not}
 use mathlib.Core.List.{List, [], _∷_}
+use mathlib.Core.Logic.{_↔_}
 use native.Mathlib.Omega.{arith}
 use lib.Dec.{eqb, ltb, leb}
 use lib.ListN.{length}
@@ -16,18 +17,23 @@ use Rattle.am9517.specs.Answers.{outcome}
 use Rattle.am9517.specs.declared.Controller.{Controller}
 use Rattle.am9517.specs.declared.Edition.the-variants.{Am9517A}
 use Rattle.am9517.specs.declared.Answer.{Answer}
-use Rattle.am9517_service.specs.Answers.{Given}
+use Rattle.am9517_service.specs.Answers.{Given, runGrounds}
 use Rattle.am9517_service.specs.RoundAnswers.{RoundGiven, closed}
 use Rattle.am9517_sheet.specs.declared.SheetRead.{SheetRead}
 use Rattle.am9517_sheet.specs.declared.forms.Form.{Form}
 use Rattle.am9517_sheet.specs.declared.forms.Form.the-variants.{One}
 use Rattle.am9517_sheet.specs.Sheet.{sheetRefusalNumber, Stored}
-use Rattle.c_am9517.specs.Numbers.{editionByte, valueOf}
-use Rattle.c_am9517.specs.Host.{lookGrounds, lookOf, loadOf, runCallOf, roundCallOf}
+use Rattle.logs.specs.declared.Verdict.{Verdict}
+use Rattle.logs.specs.declared.Verdict.the-variants.{Accepted, Wrong, Refused}
+use Rattle.logs.specs.Answers.{JudgeGiven, judgeGiven, judgeRefusalNumber, judgedOf}
+use Rattle.logs.proofs.AnswerLaws.{stated, refused-by}
+use Rattle.logs.proofs.KeepLaws.{judged-keeps}
+use Rattle.c_am9517.specs.Numbers.{editionByte, valueOf, judgeToldOf}
+use Rattle.c_am9517.specs.Host.{lookGrounds, lookOf, loadOf, runCallOf, roundCallOf, judgeCallOf}
 use Rattle.demands.specs.Lists.{All, none, also}
 use Rattle.demands.specs.Operations.{Op, Write, Read, Pins, Reset, Waits, Grant, Run, Round, SheetWriting, SheetReading, Converting, Scene, scene, before, after, said}
 use Rattle.demands.specs.Refusals.{First, here, grounds}
-use Rattle.demands.specs.Calls.{Call, CCheck, CReset, CGrant, CEntitled, CStatus, CWrite, CRead, CPins, CWaits, CRun, CRound, CSave, CLoad, looked, leftBy, ranBy, roundBy, does, lentTo, callGrounds, CallRefuses, Demand1OfCalls, ChipsStayGood}
+use Rattle.demands.specs.Calls.{Call, CCheck, CReset, CGrant, CEntitled, CStatus, CWrite, CRead, CPins, CWaits, CRun, CRound, CJudge, CSave, CLoad, looked, leftBy, ranBy, roundBy, judgedBy, does, lentTo, callGrounds, CallRefuses, Demand1OfCalls, ChipsStayGood}
 use Rattle.words.proofs.ChoiceLaws.{when-both, when-each, when-miss}
 use Rattle.am9517.proofs.RefusalLaws.{number-told}
 use Rattle.am9517_service.proofs.AnswerLaws.{run-refused}
@@ -77,6 +83,25 @@ round-refuses s m d r k =
     (λ h. subst (λ (g : RoundGiven). Zeros (roundBy (roundCallOf g) .beside)) (sym (round-refused s m d r k h)) (also refl (also refl (also refl (also refl (also refl (also refl (also refl (also refl (also refl none))))))))))
     (round-told s m d r k)
 
+judge-number : (n : ℕ) (v : Verdict) → judgeToldOf n v .refusal ≡ judgeRefusalNumber v
+judge-number n Accepted = refl
+judge-number n (Wrong at error) = refl
+judge-number n (Refused k) = refl
+
+judge-told : (s : Controller) (m log : List ℕ) → does s (CJudge m log) .refusal ≡ refusal (runGrounds s m)
+judge-told s m log = judge-number _ (judgedOf s m log .judged .verdict) ∙ stated s m log _ _ refl .1
+
+judge-refuses : (s : Controller) (m log : List ℕ) → CallRefuses (does s (CJudge m log)) (callGrounds s (CJudge m log)) (lentTo s (CJudge m log))
+judge-refuses s m log =
+    let g = judgedOf s m log in
+    let number = judge-told s m log in
+    let refused : ¬ (judgeToldOf (length log) (g .judged .verdict) .refusal ≡ 0) → g ≡ judgeGiven (record { controller = s; verdict = Refused (refusal (runGrounds s m)) }) m = λ h. sym (refused-by s m log _ refl (λ z. h (number ∙ z))) in
+    record {
+      exactly = λ n h. subst (λ (k : ℕ). (k ≡ n) ↔ First n (runGrounds s m)) (sym number) (refusal-exactly (runGrounds s m) n h);
+      stays = λ h. ap (λ (x : JudgeGiven). judgedBy (judgeCallOf (length log) x) .leaves) (refused h);
+      only = λ h. subst (λ (x : JudgeGiven). Zeros (judgedBy (judgeCallOf (length log) x) .beside)) (sym (refused h)) (also refl (also refl none));
+    }
+
 calls-refuse : (s : Controller) (c : Call) → CallRefuses (does s c) (callGrounds s c) (lentTo s c)
 calls-refuse s CCheck = record { exactly = refusal-exactly (lookGrounds s); stays = λ h. refl; only = λ h. also refl none }
 calls-refuse s CEntitled = look-refuses s _
@@ -89,6 +114,7 @@ calls-refuse s CReset = by-operation s Reset _ (λ h. also (no-value _ _ _ _ h) 
 calls-refuse s CGrant = by-operation s Grant _ (λ h. also (no-value _ _ _ _ h) none) (number-told _ _ _ _ refl)
 calls-refuse s (CRun m d r limit eop) = run-refuses s m d r limit eop
 calls-refuse s (CRound m d r k) = round-refuses s m d r k
+calls-refuse s (CJudge m log) = judge-refuses s m log
 calls-refuse s (CSave form bytes) = by-operation s (SheetWriting form bytes) [] (λ h. none) (number-said _)
 calls-refuse s (CLoad form bytes) = by-operation s (SheetReading form bytes) _ (λ h. also refl none) (number-said _)
 
@@ -118,6 +144,7 @@ call-not-1 s CReset v = not-by-1 s Reset v
 call-not-1 s CGrant v = not-by-1 s Grant v
 call-not-1 s (CRun m d r limit eop) v = not-by-1 s (Run m d r limit eop) v
 call-not-1 s (CRound m d r k) v = not-by-1 s (Round m d r k) v
+call-not-1 s (CJudge m log) v = λ e. not-by-1 s (Run m [] [] 0 0) v (ran-told s m [] [] 0 0 ∙ sym (judge-told s m log) ∙ e)
 call-not-1 s (CSave form bytes) v = not-by-1 s (SheetWriting form bytes) v
 call-not-1 s (CLoad form bytes) v = not-by-1 s (SheetReading form bytes) v
 
@@ -133,6 +160,7 @@ stays-good s CReset v = kept s Reset v
 stays-good s CGrant v = kept s Grant v
 stays-good s (CRun m d r limit eop) v = kept s (Run m d r limit eop) v
 stays-good s (CRound m d r k) v = kept s (Round m d r k) v
+stays-good s (CJudge m log) v = judged-keeps s m log v .0
 stays-good s (CSave form bytes) v = v
 stays-good s (CLoad form bytes) v = kept s (SheetReading form bytes) v
 
@@ -155,6 +183,7 @@ out-of-ranges s CReset v h = by-1 s CReset (λ e. here (ap not e) refl) v
 out-of-ranges s CGrant v h = by-1 s CGrant (λ e. here (ap not e) refl) v
 out-of-ranges s (CRun m d r limit eop) v h = by-1 s (CRun m d r limit eop) (λ e. here (ap not e) refl) v
 out-of-ranges s (CRound m d r k) v h = by-1 s (CRound m d r k) (λ e. here (ap not e) refl) v
+out-of-ranges s (CJudge m log) v h = by-1 s (CJudge m log) (λ e. here (ap not e) refl) v
 out-of-ranges s (CSave form bytes) v h = by-1 s (CSave form bytes) (λ e. here (ap not e) refl) v
 out-of-ranges s (CLoad form bytes) v h = absurd (h form bytes refl)
 
@@ -178,6 +207,7 @@ accepted-good s CReset h = accepted-by s CReset (λ e. here (ap not e) refl) h
 accepted-good s CGrant h = accepted-by s CGrant (λ e. here (ap not e) refl) h
 accepted-good s (CRun m d r limit eop) h = accepted-by s (CRun m d r limit eop) (λ e. here (ap not e) refl) h
 accepted-good s (CRound m d r k) h = accepted-by s (CRound m d r k) (λ e. here (ap not e) refl) h
+accepted-good s (CJudge m log) h = accepted-by s (CJudge m log) (λ e. here (ap not e) refl) h
 accepted-good s (CSave form bytes) h = accepted-by s (CSave form bytes) (λ e. here (ap not e) refl) h
 accepted-good s (CLoad form bytes) h = read s form bytes h
 
@@ -196,6 +226,7 @@ lent-chip s CReset = refl
 lent-chip s CGrant = refl
 lent-chip s (CRun m d r limit eop) = refl
 lent-chip s (CRound m d r k) = refl
+lent-chip s (CJudge m log) = refl
 lent-chip s (CSave form bytes) = refl
 lent-chip s (CLoad form bytes) = refl
 
@@ -215,6 +246,9 @@ refusal-small n gs is h = subst (λ (x : ℕ). x ≤ 8) (sym is) (first-small gs
 at-most : (n : ℕ) → n ≤ 8 → n ≤ 8
 at-most n h = h
 
+run-small : (s : Controller) (m : List ℕ) → All Small (runGrounds s m)
+run-small s m = also (at-most 1 (omega arith)) (also (at-most 7 (omega arith)) (also (at-most 8 (omega arith)) none))
+
 call-small : (s : Controller) (c : Call) → ((form : Form) (bytes : List ℕ) → ¬ (c ≡ CSave form bytes)) → ((form : Form) (bytes : List ℕ) → ¬ (c ≡ CLoad form bytes)) → does s c .refusal ≤ 8
 call-small s CCheck f g = refusal-small _ (lookGrounds s) refl (also (at-most 1 (omega arith)) none)
 call-small s CEntitled f g = refusal-small _ (lookGrounds s) refl (also (at-most 1 (omega arith)) none)
@@ -225,7 +259,8 @@ call-small s (CPins p) f g = refusal-small _ (callGrounds s (CPins p)) (number-t
 call-small s (CWaits n) f g = refusal-small _ (callGrounds s (CWaits n)) (number-told _ _ _ _ refl) (also (at-most 1 (omega arith)) (also (at-most 3 (omega arith)) none))
 call-small s CReset f g = refusal-small _ (callGrounds s CReset) (number-told _ _ _ _ refl) (also (at-most 1 (omega arith)) none)
 call-small s CGrant f g = refusal-small _ (callGrounds s CGrant) (number-told _ _ _ _ refl) (also (at-most 1 (omega arith)) (also (at-most 3 (omega arith)) (also (at-most 6 (omega arith)) none)))
-call-small s (CRun m d r limit eop) f g = refusal-small _ (callGrounds s (CRun m d r limit eop)) (ran-told s m d r limit eop) (also (at-most 1 (omega arith)) (also (at-most 7 (omega arith)) (also (at-most 8 (omega arith)) none)))
+call-small s (CRun m d r limit eop) f g = refusal-small _ (callGrounds s (CRun m d r limit eop)) (ran-told s m d r limit eop) (run-small s m)
+call-small s (CJudge m log) f g = refusal-small _ (runGrounds s m) (judge-told s m log) (run-small s m)
 call-small s (CRound m d r k) f g = refusal-small _ (callGrounds s (CRound m d r k)) (round-told s m d r k) (also (at-most 1 (omega arith)) (also (at-most 2 (omega arith)) (also (at-most 7 (omega arith)) (also (at-most 3 (omega arith)) none))))
 call-small s (CSave form bytes) f g = absurd (f form bytes refl)
 call-small s (CLoad form bytes) f g = absurd (g form bytes refl)

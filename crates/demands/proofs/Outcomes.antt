@@ -6,10 +6,12 @@ use Rattle.am9517.specs.Serving.{entitled, setOf, status}
 use Rattle.am9517.specs.Answers.{writeOf, readOf, pinsOf, resetOf, waitsOf, grantOf}
 use Rattle.am9517_service.specs.Answers.{Given, ranOf}
 use Rattle.am9517_service.specs.RoundAnswers.{RoundGiven, roundedOf}
+use lib.ListN.{length}
+use Rattle.logs.specs.Answers.{JudgeGiven, judgedOf}
 use Rattle.am9517_sheet.specs.declared.forms.Form.the-variants.{One, Two}
 use Rattle.am9517_sheet.specs.Sheet.{Stored, sheetWriteOf, sheetReadOf}
 use Rattle.c_am9517.specs.Numbers.{told}
-use Rattle.c_am9517.specs.Host.{lookOf, Left, left, callOf, loadOf, Saved, saved, saveOf, RunLeft, runLeft, runCallOf, RoundLeft, roundLeft, roundCallOf}
+use Rattle.c_am9517.specs.Host.{lookOf, Left, left, callOf, loadOf, Saved, saved, saveOf, RunLeft, runLeft, runCallOf, RoundLeft, roundLeft, roundCallOf, JudgeLeft, judgeLeft, judgeCallOf}
 use Rattle.demands.specs.Outcomes.{OneOutcome, OneOutcomeOfCalls, OneOutcomeWhereAsked}
 
 -- two values that both equal a third
@@ -67,6 +69,7 @@ one-outcome =
       entitledOf = record { free = λ κs a. tt; single = λ κs a x y l l' p q. (same p q, refl) };
       pickedFrom = record { free = λ κs a. tt; single = λ κs a x y l l' p q. (same p q, refl) };
       ended = record { free = λ κs a. tt; single = λ κs a x y l l' p q. (same p q, refl) };
+      runRefusal = record { free = λ κs a. tt; single = λ κs a x y l l' p q. (same p q, refl) };
       run = record { free = λ κs a. tt; single = λ κs a x y l l' p q. (ap (λ (g : Given). g .ran) (same (p .0) (q .0)), ap (λ (g : Given). (tt, (g .memory, (tt, (g .room, (tt, (tt, tt))))))) (same (p .0) (q .0))) };
       round = record { free = λ κs a. tt; single = λ κs a x y l l' p q. (ap (λ (g : RoundGiven). g .rounded) (same (p .0) (q .0)), ap (λ (g : RoundGiven). (tt, (g .memory, (tt, (g .room, (tt, tt)))))) (same (p .0) (q .0))) };
       sheetWrite = record { free = λ κs a. tt; single = λ κs a x y l l' p q. (ap (λ (s : Stored). s .answer) (same (p .0) (q .0)), ap (λ (s : Stored). (tt, (tt, (s .bytes, tt)))) (same (p .0) (q .0))) };
@@ -74,6 +77,11 @@ one-outcome =
       sheetConvert = record { free = λ κs a. tt; single = λ κs a x y l l' p q. (ap (λ (s : Stored). s .answer) (same (p .0) (q .0)), ap (λ (s : Stored). (tt, (tt, (s .bytes, tt)))) (same (p .0) (q .0))) };
       bodyOf = record { free = λ κs a. tt; single = λ κs a x y l l' p q. (same p q, refl) };
       stateOf = record { free = λ κs a. tt; single = λ κs a x y l l' p q. (same p q, refl) };
+      judge = record { free = λ κs a. tt; single = λ κs a x y l l' p q. (ap (λ (g : JudgeGiven). g .judged) (same (p .0) (q .0)), ap (λ (g : JudgeGiven). (tt, (g .memory, (tt, tt)))) (same (p .0) (q .0))) };
+      handedBack = λ κs a x y e e'. (tt, λ p q. same p q);
+      recordBytes = record { free = λ κs a. tt; single = λ κs a x y l l' p q. (same p q, refl) };
+      recordIn = record { free = λ κs a. tt; single = λ κs a x y l l' p q. (same p q, refl) };
+      nextRecord = record { free = λ κs a. tt; single = λ κs a x y l l' p q. (same p q, refl) };
       cVersion = record { free = λ κs a. tt; single = λ κs a x y l l' p q. (same p q, refl) };
       cFresh = record { free = λ κs a. tt; single = λ κs a x y l l' p q. (same p q, refl) };
       cForward = record { free = λ κs a. tt; single = λ κs a x y l l' p q. (ap (λ (g : Saved). g .refusal) (same p q), ap (λ (g : Saved). (tt, (g .sheet, tt))) (same p q)) };
@@ -159,6 +167,13 @@ one-outcome-of-calls =
         free = λ M 𝓤 H A mem run κs a g. refl;
         says = λ M 𝓤 H A mem run κs a g r e. refl;
         single = λ κs a x y l l' p q. (ap (λ (g : RoundLeft). g .said) (same p q), ap (λ (g : RoundLeft). (g .chip, (g .memory, (tt, (g .room, (tt, tt)))))) (same p q));
+      };
+      cJudge = record {
+        promise = λ κs a r e. judgeLeft (e .0 .now) r (e .1 .0 .now) ≡ judgeCallOf (length (a .1 .1 .0 .now)) (judgedOf (a .0 .now) (a .1 .0 .now) (a .1 .1 .0 .now));
+        entered = λ M 𝓤 H A mem run κs a. tt;
+        free = λ M 𝓤 H A mem run κs a g. refl;
+        says = λ M 𝓤 H A mem run κs a g r e. refl;
+        single = λ κs a x y l l' p q. (ap (λ (g : JudgeLeft). g .said) (same p q), ap (λ (g : JudgeLeft). (g .chip, (g .memory, (tt, tt)))) (same p q));
       };
       cSave = record {
         promise = λ κs a r e. saved r (e .1 .0 .now) ≡ saveOf (sheetWriteOf One (a .0 .now) (a .1 .0 .now));

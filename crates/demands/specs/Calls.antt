@@ -1,10 +1,11 @@
 -- Demand 1 of the C library: a refused call says the number of the first ground, and all that was lent stays. A chip in its ranges stays in them.
-use Prim.Native.Nat.{ℕ, _≤_}
+use Prim.Native.Nat.{ℕ, _+_, _≤_}
 use mathlib.Core.Path.{_≡_}
 use mathlib.Core.Bool.{true, false}
 use mathlib.Core.List.{List, [], _∷_, _++_}
 use mathlib.Core.Logic.{_↔_}
 use lib.Dec.{leb}
+use lib.IntN.{ℤ, pos, negsuc}
 use lib.ListN.{length}
 use Rattle.words.specs.Grounds.{Ground}
 use Rattle.am9517.specs.Editions.{numberOf}
@@ -22,9 +23,10 @@ use Rattle.am9517_sheet.specs.declared.forms.Form.the-variants.{One, Two}
 use Rattle.am9517_sheet.specs.Sheet.{sheetWriteGrounds, sheetReadGrounds, sheetWriteOf, sheetReadOf}
 use Rattle.am9517_sheet.specs.Form.{other}
 use Rattle.am9517_sheet.specs.Convert.{convertGrounds, convertOf}
+use Rattle.logs.specs.Answers.{judgedOf}
 use Rattle.c_am9517.specs.declared.Told.{Told}
 use Rattle.c_am9517.specs.Numbers.{editionByte, told}
-use Rattle.c_am9517.specs.Host.{lookGrounds, lookOf, Left, callOf, loadOf, Saved, saveOf, RunLeft, runCallOf, RoundLeft, roundCallOf}
+use Rattle.c_am9517.specs.Host.{lookGrounds, lookOf, Left, callOf, loadOf, Saved, saveOf, RunLeft, runCallOf, RoundLeft, roundCallOf, JudgeLeft, judgeCallOf}
 use Rattle.demands.specs.Lists.{All}
 use Rattle.demands.specs.Operations.{Scene, scene}
 use Rattle.demands.specs.Refusals.{First}
@@ -45,6 +47,8 @@ pub data Call : Type 0 where
   CRun : List ℕ → List ℕ → List ℕ → ℕ → ℕ → Call
   -- memory, device bytes, room, k
   CRound : List ℕ → List ℕ → List ℕ → ℕ → Call
+  -- memory, log
+  CJudge : List ℕ → List ℕ → Call
   -- form, and the bytes into which the sheet is written, or from which it is read: am9517_save and am9517_load for form 1,
   -- am9517_save2 and am9517_load2 for form 2
   CSave CLoad : Form → List ℕ → Call
@@ -80,6 +84,16 @@ roundBy l =
       leaves = scene (l .chip) (l .memory) (l .room) [];
     }
 
+-- how far a signed number is from 0
+abbrev pub size : ℤ → ℕ
+size (pos n) = n
+size (negsuc n) = n + 1
+
+abbrev pub judgedBy : JudgeLeft → Spoken
+judgedBy l =
+    let t = l .said in
+    record { refusal = t .refusal; beside = size (t .error) ∷ t .right ∷ []; leaves = scene (l .chip) (l .memory) [] [] }
+
 -- a save leaves the chip, which is lent by `&`
 abbrev pub savedBy : Controller → Saved → Spoken
 savedBy s w = record { refusal = w .refusal; beside = []; leaves = scene s [] [] (w .sheet) }
@@ -97,6 +111,7 @@ does s CReset = leftBy (callOf (resetOf s))
 does s CGrant = leftBy (callOf (grantOf s))
 does s (CRun m d r limit eop) = ranBy (runCallOf (ranOf s m d r limit eop))
 does s (CRound m d r k) = roundBy (roundCallOf (roundedOf s m d r k))
+does s (CJudge m log) = judgedBy (judgeCallOf (length log) (judgedOf s m log))
 does s (CSave form bytes) = savedBy s (saveOf (sheetWriteOf form s bytes))
 does s (CLoad form bytes) = leftBy (loadOf (sheetReadOf form s bytes))
 
@@ -113,6 +128,7 @@ lentTo s CReset = scene s [] [] []
 lentTo s CGrant = scene s [] [] []
 lentTo s (CRun m d r limit eop) = scene s m r []
 lentTo s (CRound m d r k) = scene s m r []
+lentTo s (CJudge m log) = scene s m [] []
 lentTo s (CSave form bytes) = scene s [] [] bytes
 lentTo s (CLoad form bytes) = scene s [] [] []
 
@@ -129,6 +145,7 @@ callGrounds s CReset = resetGrounds s
 callGrounds s CGrant = grantGrounds s
 callGrounds s (CRun m d r limit eop) = runGrounds s m
 callGrounds s (CRound m d r k) = roundGrounds s m k
+callGrounds s (CJudge m log) = runGrounds s m
 callGrounds s (CSave form bytes) = sheetWriteGrounds form s (length bytes)
 callGrounds s (CLoad form bytes) = sheetReadGrounds form bytes
 

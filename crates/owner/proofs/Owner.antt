@@ -13,6 +13,7 @@ use Rattle.requests.proofs.Editions.{editions-differ}
 use Rattle.requests.proofs.Waits.{slow-cards}
 use Rattle.requests.proofs.Most.{most-counted}
 use Rattle.requests.proofs.Forms.{sheet-forms}
+use Rattle.requests.proofs.Logs.{logs-judged}
 use Rattle.owner.proofs.Cases.{worked-cases, tight}
 
 pub owner : Owner
@@ -39,5 +40,6 @@ owner =
       slowCards = slow-cards;
       most = most-counted;
       sheetForms = sheet-forms;
+      logs = logs-judged;
       tight = tight;
     }

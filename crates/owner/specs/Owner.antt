@@ -12,13 +12,14 @@ use Rattle.requests.specs.Editions.{EditionsDiffer}
 use Rattle.requests.specs.Waits.{SlowCards}
 use Rattle.requests.specs.Most.{MostCounted}
 use Rattle.requests.specs.Forms.{SheetForms}
+use Rattle.requests.specs.Logs.{LogsJudged}
 use Rattle.owner.specs.Cases.{WorkedCases, Tight}
 
 pub record Owner : Type 2 where
   -- Demand 1: a refusal says its number, exactly when its condition is the first that holds, and changes nothing; of the C calls, too.
   pub refusals : Demand1
   pub refusalsInC : Demand1OfCalls
-  -- Demand 2: each public function of words, am9517, am9517_service, am9517_sheet and c_am9517 admits one outcome only; those public by need,
+  -- Demand 2: each public function of words, am9517, am9517_service, am9517_sheet, logs and c_am9517 admits one outcome only; those public by need,
   -- where they get what they ask for.
   pub oneOutcome : OneOutcome
   pub oneOutcomeInC : OneOutcomeOfCalls
@@ -52,5 +53,8 @@ pub record Owner : Type 2 where
   -- Document 02, A5: sheets convert between the forms with the state that they tell, there and back to the same bytes; a reader refuses a sheet of
   -- the other form, and one with a changed byte.
   pub sheetForms : SheetForms
+  -- Document 02, A8: an honest log is accepted, and what is accepted is the log of the run that it tells of; a wrong one is handed back from the first
+  -- record on that is not what the rules do next, with its address error; in parts as in one.
+  pub logs : LogsJudged
   -- Demand 3's numbers can't be better.
   pub tight : Tight

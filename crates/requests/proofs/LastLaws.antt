@@ -29,7 +29,7 @@ use Rattle.am9517_service.proofs.KeepLaws.{run-ind}
 abbrev pub Lasts : Controller → Controller → Type 0
 Lasts s t = (t .edition ≡ s .edition) × (t .waits ≡ s .waits)
 
-lasts-then : (s t u : Controller) → Lasts s t → Lasts t u → Lasts s u
+pub lasts-then : (s t u : Controller) → Lasts s t → Lasts t u → Lasts s u
 lasts-then s t u p q = (q .0 ∙ p .0, q .1 ∙ p .1)
 
 -- a run
@@ -42,7 +42,7 @@ met-lasts : (c : Controller) (tc met : Bool) → Lasts c (afterTcOrEop c tc met)
 unfolding afterTcOrEop finished
 met-lasts c tc met = when-both (Lasts c) (memoryToMemory c) (refl, refl) (refl, refl)
 
-run-lasts : (left eop : ℕ) (d : List ℕ) (w : World) → Lasts (w .controller) (runOf left eop d w .world .controller)
+pub run-lasts : (left eop : ℕ) (d : List ℕ) (w : World) → Lasts (w .controller) (runOf left eop d w .world .controller)
 run-lasts left eop d w =
     run-ind (λ (k : ℕ) (x : World). Lasts c (x .controller)) (λ (s : Stop). Lasts c (s .world .controller)) eop d
     (λ k x p s. lasts-then c (x .controller) (transferred x d .controller) p (transfer-lasts x d)) (λ k x e z p. p) (λ k x p. p) (λ k x tc met p. lasts-then c (x .controller) (afterTcOrEop (x .controller) tc met) p (met-lasts (x .controller) tc met)) (λ k x p. p)

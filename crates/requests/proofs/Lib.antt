@@ -12,3 +12,13 @@ pub mod ConvertTripLaws
 pub mod OtherFormLaws
 pub mod ChangedLaws
 pub mod Forms
+pub mod JudgedLaws
+pub mod VerdictLaws
+pub mod LogFirstLaws
+pub mod LogPartLaws
+pub mod LogStepLaws
+pub mod HonestLaws
+pub mod SoundLaws
+pub mod TellLaws
+pub mod LogSizeLaws
+pub mod Logs
