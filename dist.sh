@@ -111,10 +111,11 @@ filled README README
 cp LICENSE "$new/"
 
 cp packaging/rack "$new/rack/rack"
+cp judge "$new/rack/judge"
 cp target/bin/rack "$new/rack/bin/rack"
-chmod 755 "$new/rack/rack" "$new/rack/bin/rack"
-for script in examples/*.rack; do cp "$script" "${script%.rack}.out" "$new/rack/examples/"; done
-cp docs/CONSOLE.md LICENSE "$new/rack/"
+chmod 755 "$new/rack/rack" "$new/rack/judge" "$new/rack/bin/rack"
+for script in examples/*.rack examples/*.sh; do cp "$script" "${script%.*}.out" "$new/rack/examples/"; done
+cp docs/CONSOLE.md docs/LOGS.md LICENSE "$new/rack/"
 
 trap '' HUP INT TERM
 [ ! -e "$out" ] || mv -- "$out" "$beside/old"

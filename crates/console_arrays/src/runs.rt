@@ -117,7 +117,7 @@ fn round_said(done: Rounded, out: &mut [u8], at: usize) -> usize
     }
 }
 
-fn unserved(c: Controller, out: &mut [u8], at: usize) -> Served
+pub(crate) fn unserved(c: Controller, out: &mut [u8], at: usize) -> Served
     ensures { λ r. ⌜ ((m room : List ℕ) → served r m room (now (out .exit)) ≡ serving (page (now (out .entry)) at) (Services·unserved c m room)) ⌝ }
 {
     let next = error(out, at);

@@ -20,12 +20,13 @@ use Rattle.console_text.specs.declared.forms.ChipCommand.the-variants.{State, S
 use Rattle.console_text.specs.declared.forms.ArrayCommand.{ArrayCommand}
 use Rattle.console_text.specs.declared.forms.ArrayCommand.the-variants.{Memory, Poke, Peek, Feed, Fill, Room, Out, Dump, Queue, Empty}
 use Rattle.console_text.specs.declared.forms.ServiceCommand.{ServiceCommand}
-use Rattle.console_text.specs.declared.forms.ServiceCommand.the-variants.{Run, Round}
+use Rattle.console_text.specs.declared.forms.ServiceCommand.the-variants.{Run, Round, Judge}
 use Rattle.console_chip.specs.Answers.{okText, errorText, bytesAnswer, Reply, reply, outcomeReply}
 use Rattle.console_chip.specs.Control.{stateText, stateReply, fullText, fullReply, freshReply, writeReply, readReply, pinsReply, waitsReply}
 use Rattle.console_chip.specs.Sheets.{sheetReply, loadReply, convertReply}
 use Rattle.console_arrays.specs.Arrays.{lentOf, lentText, peekText, Changed, changed, pokeOf, feedOf, fillOf, roomOf, positionOf}
 use Rattle.console_arrays.specs.Services.{Service, runReply, roundReply}
+use Rattle.console_arrays.specs.Judging.{judgeReply}
 use Rattle.console_dump.specs.Dump.{dumpOf}
 use Rattle.console_commands.specs.Holding.{Held, having, Said, said}
 
@@ -82,6 +83,7 @@ arraysDo Empty one two h = queueing h (changed [] okText)
 unfoldable pub serviceReply : ServiceCommand → Controller → List ℕ → List ℕ → List ℕ → List ℕ → List ℕ → Service
 serviceReply Run c memory device room one two = runReply c memory device room one two
 serviceReply Round c memory device room one two = roundReply c memory device room one
+serviceReply Judge c memory device room one two = judgeReply c memory room one
 
 -- a place n further on, and not past the last
 unfoldable pub further : ℕ → ℕ → ℕ → ℕ

@@ -42,7 +42,9 @@ fn perform(
         Command::Nothing => Executed { console, at },
         Command::Chip(k) => on_chip(console, k, one, two, spare, out, at),
         Command::Arrays(k) => on_arrays(console, k, one, two, memory, queue, room, out, at),
-        Command::Services(k) => on_services(console, k, one, two, memory, queue, room, out, at),
+        Command::Services(k) => {
+            on_services(console, k, one, two, memory, queue, room, spare, out, at)
+        }
         Command::People(k) => {
             let next = on_people(console, k, one, spare, out, at);
             Executed { console, at: next }

@@ -1,12 +1,14 @@
-// The commands run and round: what they are lent, and what they leave.
+// The commands run, round and judge: what they are lent, and what they leave.
 use crate::Console;
 use crate::holding::Executed;
 use am9517::Controller;
+use console_arrays::judging::judge;
 use console_arrays::runs::Served;
 use console_arrays::runs::go_round;
 use console_arrays::runs::run;
 use console_text::forms::ServiceCommand;
 ghost use mathlib.Core.Path.{_≡_};
+ghost use Prim.Native.Nat.{_≤_, _/_};
 ghost use lib.ListN.{length};
 ghost use Rattle.console_text.specs.Text.{page};
 ghost use Rattle.console_arrays.specs.Services.{served, serving};
@@ -50,14 +52,17 @@ fn serve(
     room: &mut [u8],
     one: &[u8],
     two: &[u8],
+    spare: &mut [u8],
     out: &mut [u8],
     at: usize,
 ) -> Served
+    requires { ⌜ length (now one) / 2 ≤ length (now spare) ⌝ }
     ensures { λ r. ⌜ served r (now (memory .exit)) (now (room .exit)) (now (out .exit)) ≡ serving (page (now (out .entry)) at) (serviceReply command c (now (memory .entry)) (now (device .entry)) (now (room .entry)) (now (one .entry)) (now (two .entry))) ⌝ }
 {
     match command {
         ServiceCommand::Run => run(c, memory, device, room, one, two, out, at),
         ServiceCommand::Round => go_round(c, memory, device, room, one, out, at),
+        ServiceCommand::Judge => judge(c, memory, one, spare, out, at),
     }
 }
 
@@ -70,10 +75,11 @@ pub(crate) fn on_services(
     memory: &mut [u8],
     queue: &[u8],
     room: &mut [u8],
+    spare: &mut [u8],
     out: &mut [u8],
     at: usize,
 ) -> Executed
-    requires { ⌜ Standing console (length (now memory)) (length (now queue)) (length (now room)) ⌝ }
+    requires { ⌜ Standing console (length (now memory)) (length (now queue)) (length (now room)) × (length (now one) / 2 ≤ length (now spare)) ⌝ }
     ensures { λ r. ⌜ (left r (now (memory .exit)) (now (queue .entry)) (now (room .exit)) (now (out .exit)) ≡ leaving (page (now (out .entry)) at) (servicesDo command (now (one .entry)) (now (two .entry)) (holds console (now (memory .entry)) (now (queue .entry)) (now (room .entry))))) × Standing (r .console) (length (now (memory .entry))) (length (now (queue .entry))) (length (now (room .entry))) ⌝ }
 {
     let lent = console.lent;
@@ -85,6 +91,6 @@ pub(crate) fn on_services(
     let front = &mut memory[0..lent];
     let device = &queue[from..to];
     let rest = &mut room[written..size];
-    let done = serve(c, command, front, device, rest, one, two, out, at);
+    let done = serve(c, command, front, device, rest, one, two, spare, out, at);
     after_service(console, done)
 }

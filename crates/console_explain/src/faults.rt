@@ -2,6 +2,7 @@
 use crate::Held;
 use crate::forms::NO_BYTE;
 use crate::forms::NO_BYTES;
+use crate::forms::NO_SWITCH;
 use crate::forms::fault_at;
 use crate::forms::first_fault;
 use crate::forms::row_of;
@@ -47,6 +48,9 @@ fn fault(out: &mut [u8], at: usize, line: &[u8], k: usize, kind: u8) -> usize {
     }
     if kind == NO_BYTE {
         return text(out, next, b" is over 255\n");
+    }
+    if kind == NO_SWITCH {
+        return text(out, next, b" is neither on nor off\n");
     }
     if ends_in_h(line, k) {
         return text(

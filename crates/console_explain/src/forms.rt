@@ -16,6 +16,8 @@ pub(crate) const NO_NUMBER: u8 = 2;
 
 pub(crate) const NO_BYTE: u8 = 3;
 
+pub(crate) const NO_SWITCH: u8 = 4;
+
 fn is_blank(b: u8) -> bool {
     (b == b' ') | (b == b'\t')
 }
@@ -93,6 +95,10 @@ fn fault_of(place: &[u8], said: &[u8]) -> u8 {
             return 0;
         }
         return NO_BYTES;
+    }
+    if same(place, b"SWITCH") {
+        // a right one is not the console's, and has no fault
+        return NO_SWITCH;
     }
     let fault = fault_of_number(said, 0xffff_ffff);
     if (fault != 0) | !same(place, b"BYTE") {

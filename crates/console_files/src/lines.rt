@@ -37,6 +37,9 @@ fn shape_of(name: &[u8]) -> Shape {
     if same(name, b"f.feed") | same(name, b"f.load") | same(name, b"f.load2") {
         return Shape::Reads(1);
     }
+    if same(name, b"f.judge") {
+        return Shape::Reads(1);
+    }
     if same(name, b"f.peek") | same(name, b"f.out") {
         return Shape::Writes(3);
     }
@@ -105,14 +108,18 @@ fn words_behind(line: &[u8], at: usize) -> Words
     words
 }
 
-fn as_it_is(length: usize) -> Plan {
-    let task = Task::Console;
+// What is done without the bytes of a file.
+fn plan_for(task: Task, length: usize, name: usize) -> Plan {
     Plan {
         task,
         is_file: false,
         length,
-        name: 0,
+        name,
     }
+}
+
+fn as_it_is(length: usize) -> Plan {
+    plan_for(Task::Console, length, 0)
 }
 
 fn failed(length: usize) -> Plan {
@@ -273,6 +280,33 @@ fn file_plan(
     planned(number, line, shape, first, words, bytes, path)
 }
 
+// What is asked of traces: `trace on`, `trace off`, `log FILE`, `log off`.
+fn trace_plan(number: u64, name: &[u8], word: &[u8], size: usize, path: &mut [u8]) -> Plan {
+    let is_off = same(word, b"off");
+    if same(name, b"trace") {
+        if is_off | same(word, b"on") {
+            return plan_for(Task::Trace(!is_off), size, 0);
+        }
+        return as_it_is(size);
+    }
+    if is_off {
+        return plan_for(Task::LogOff, size, 0);
+    }
+    if same(word, b"on") {
+        complain_of(number, word, b" is no file here: log FILE, or log off\n");
+        return failed(size);
+    }
+    let length = kept(number, word, path);
+    if length == 0 {
+        return failed(size);
+    }
+    plan_for(Task::Log, size, length)
+}
+
+fn is_traced(name: &[u8]) -> bool {
+    same(name, b"trace") | same(name, b"log")
+}
+
 fn is_leave(name: &[u8]) -> bool {
     same(name, b"quit") | same(name, b"exit")
 }
@@ -288,13 +322,16 @@ fn own_plan(number: u64, line: &mut [u8], size: usize, bytes: &mut [u8], path: &
     if is_leave(&line[from..to]) {
         let words = words_behind(&line[0..n], to);
         if words.count == 0 {
-            let task = Task::Leave;
-            return Plan {
-                task,
-                is_file: false,
-                length: n,
-                name: 0,
-            };
+            return plan_for(Task::Leave, n, 0);
+        }
+        return as_it_is(size);
+    }
+    if is_traced(&line[from..to]) {
+        let words = words_behind(&line[0..n], to);
+        if words.count == 1 {
+            let first = words.from;
+            let last = words.to;
+            return trace_plan(number, &line[from..to], &line[first..last], size, path);
         }
         return as_it_is(size);
     }
@@ -303,7 +340,9 @@ fn own_plan(number: u64, line: &mut [u8], size: usize, bytes: &mut [u8], path: &
 
 // Whether a line that begins so may be one that is not the console's: the console's own are let through at once.
 fn may_be_own(b: u8) -> bool {
-    ((b == b' ') | (b == b'\t')) | ((b == b'f') | ((b == b'q') | (b == b'e')))
+    let is_blank = (b == b' ') | (b == b'\t');
+    let is_left = (b == b'q') | (b == b'e');
+    is_blank | ((b == b'f') | (is_left | ((b == b't') | (b == b'l'))))
 }
 
 // `bytes` is for a file's bytes, `path` keeps a file's name; `number` is the line's, for what is said of a file.

@@ -20,6 +20,7 @@ waits N             hold each transfer for N states more, 0 to 255
 grant               grant the first entitled channel a service
 run LIMIT EOP       run it: at most LIMIT transfers, transfer EOP meets EOP, 0 none
 round K             begin up to K services, grant then run
+judge HEX           judge a log of the open service, 8 bytes a record
 ",
     )
 }
@@ -66,6 +67,7 @@ f.feed FILE         append the bytes of a file to the device's queue
 f.out ADDR N FILE   write N bytes of the room to a file
 f.sheet FILE        store the state as a sheet file of 56 bytes
 f.load FILE         read the sheet at the end of a file
+f.judge FILE        judge the log in a file
 f.sheet2 FILE       store the state as a sheet file of form 2, 58 bytes
 f.load2 FILE        read the sheet of form 2 at the end of a file
 f.forward FROM TO   convert the form 1 sheet at the end of a file into a file of form 2
@@ -78,7 +80,9 @@ fn rows_of_people(out: &mut [u8], at: usize) -> usize {
     text(
         out,
         at,
-        b"show                the state as a table
+        b"trace SWITCH        on: before the answer of run and round a line for each transfer; off: none
+log FILE            each transfer of run and round as a record of 8 bytes into a file; off: no file
+show                the state as a table
 help                this
 help COMMAND        its form, and an example
 help refusals       what the refusal numbers mean
@@ -122,6 +126,7 @@ waits 3             # a memory card that is slow by three states
 grant
 run 65536 0         # to the service's end, no EOP
 round 600           # until nobody asks any more
+judge 0101000200004105  # one record: channel 1, write, 0200h, 41h, TC and last
 ",
     )
 }
@@ -160,10 +165,13 @@ f.feed sector.bin
 f.out 0 16 printed.bin
 f.sheet pier.sheet  # the old file stays until the new one is whole
 f.load pier.sheet
+f.judge vendor.log  # at most 70000 bytes; ./judge takes longer ones
 f.sheet2 pier.sheet2
 f.load2 pier.sheet2
 f.forward pier.sheet pier.sheet2
 f.back pier.sheet2 pier.sheet
+trace on
+log service.log
 show
 help poke
 quit
@@ -216,7 +224,7 @@ pub fn help_refusals(out: &mut [u8], at: usize) -> usize {
  5  mode byte with bits 3-2 = 11 and bits 7-6 not 11
  6  grant with no entitled channel
  7  memory not of 65,536 bytes
- 8  run with no service open
+ 8  run or judge with no service open
  9  slice under 56 bytes for a sheet (58 in form 2)
 10  sheet fault: end mark
 11  sheet fault: first two trailer bytes

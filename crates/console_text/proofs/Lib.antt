@@ -1,5 +1,6 @@
 -- Laws about the definitions of specs/.
 pub mod TextLaws
 pub mod NumberLaws
+pub mod SignedLaws
 pub mod HexLaws
 pub mod LineLaws

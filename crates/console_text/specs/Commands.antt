@@ -11,7 +11,7 @@ use Rattle.console_text.specs.declared.forms.Command.{Command}
 use Rattle.console_text.specs.declared.forms.Command.the-variants.{Nothing, Chip, Arrays, Services, People, Unknown}
 use Rattle.console_text.specs.declared.forms.ChipCommand.the-variants.{State, SetState, Full, SetFull, Fresh, FreshOf, Write, Read, Pins, Reset, Waits, Grant, Sheet, Load, Sheet2, Load2, Forward, Back}
 use Rattle.console_text.specs.declared.forms.ArrayCommand.the-variants.{Memory, Poke, Peek, Feed, Fill, Room, Out, Dump, Queue, Empty}
-use Rattle.console_text.specs.declared.forms.ServiceCommand.the-variants.{Run, Round}
+use Rattle.console_text.specs.declared.forms.ServiceCommand.the-variants.{Run, Round, Judge}
 use Rattle.console_text.specs.declared.forms.PeopleCommand.the-variants.{Show, Help, HelpOn}
 
 -- a line of this name with n further words is the command of that name with k
@@ -66,6 +66,7 @@ abbrev pub serviceRows : List Row
 serviceRows =
     row "run" 2 (Services Run)
     ∷ row "round" 1 (Services Round)
+    ∷ row "judge" 1 (Services Judge)
     ∷ []
 
 -- sheets

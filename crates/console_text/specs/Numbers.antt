@@ -3,8 +3,10 @@ use Prim.Native.Nat.{ℕ, zero, suc, _+_, _-_, _*_, _/_, _%_}
 use mathlib.Core.Bool.{Bool, true}
 use mathlib.Core.List.{List, [], _∷_, _++_}
 use lib.Dec.{ltb, leb, eqb}
+use lib.IntN.{ℤ, pos, negsuc}
 use lib.ListN.{length, getD, drop}
 use Rattle.words.specs.Choice.{when, _and_}
+use Rattle.console_text.specs.Text.{codes}
 use Rattle.console_text.specs.declared.numbers.Number.{Number}
 use Rattle.console_text.specs.declared.numbers.Number.the-variants.{Value, Bad}
 
@@ -57,3 +59,8 @@ digitsIn base (suc f) n = when (ltb n base) (glyph n ∷ []) (digitsIn base f (n
 -- n in decimal
 unfoldable pub decimalText : ℕ → List ℕ
 decimalText n = digitsIn 10 (suc n) n
+
+-- "E in decimal, - before a negative one": negsuc n is -(n + 1)
+unfoldable pub signedText : ℤ → List ℕ
+signedText (pos n) = decimalText n
+signedText (negsuc n) = codes "-" ++ decimalText (suc n)

@@ -55,6 +55,7 @@ pub enum ArrayCommand {
 pub enum ServiceCommand {
     Run,
     Round,
+    Judge,
 }
 
 // For people.
@@ -161,7 +162,8 @@ fn array_row(name: &[u8], n: usize, other: Command) -> Command
 fn service_row(name: &[u8], n: usize, other: Command) -> Command
     ensures { λ r. ⌜ r ≡ pick serviceRows (now (name .entry)) n other ⌝ }
 {
-    let no = service(name, n, b"round", 1, ServiceCommand::Round, other);
+    let no = service(name, n, b"judge", 1, ServiceCommand::Judge, other);
+    let no = service(name, n, b"round", 1, ServiceCommand::Round, no);
     service(name, n, b"run", 2, ServiceCommand::Run, no)
 }
 

@@ -3,7 +3,7 @@ ghost use mathlib.Core.Path.{_≡_};
 ghost use Prim.Native.Nat.{_<_};
 ghost use lib.ListN.{replicate};
 ghost use Rattle.console_text.specs.Text.{page, putByte, put};
-ghost use Rattle.console_text.specs.Numbers.{glyph as Numbers·glyph, decimalText};
+ghost use Rattle.console_text.specs.Numbers.{glyph as Numbers·glyph, decimalText, signedText};
 ghost use Rattle.console_text.specs.Hex.{hexText, bytesText};
 
 pub fn byte(out: &mut [u8], at: usize, b: u8) -> usize
@@ -82,4 +82,15 @@ pub fn decimal(out: &mut [u8], at: usize, n: u64) -> usize
     }
     let next = decimal(out, at, n / 10);
     byte(out, next, last)
+}
+
+// In decimal, `-` before a negative one.
+pub fn signed(out: &mut [u8], at: usize, n: i32) -> usize
+    ensures { λ r. ⌜ page (now (out .exit)) r ≡ put (page (now (out .entry)) at) (signedText n) ⌝ }
+{
+    if n < 0 {
+        let next = text(out, at, b"-");
+        return decimal(out, next, (0 - n as i64) as u64);
+    }
+    decimal(out, at, n as u64)
 }

@@ -71,8 +71,30 @@ fn behind(answers: Answers, b: u8) -> Answers {
     next
 }
 
+// Comments stand in lines of their own, as those of traces do: they are no answers.
+fn behind_comments(answers: Answers, part: &mut [u8; 65536]) -> Answers {
+    let mut now = ready(answers, part);
+    let mut is_comment = next_byte(now, part) == wide(b'#');
+    let mut turns = u64::MAX;
+    while turns > 0 {
+        turns -= 1;
+        let b = next_byte(now, part);
+        if !is_comment {
+            return now;
+        }
+        if 255 < b {
+            return now;
+        }
+        now = ready(behind(now, b as u8), part);
+        if b == wide(b'\n') {
+            is_comment = next_byte(now, part) == wide(b'#');
+        }
+    }
+    now
+}
+
 pub(crate) fn compare(answers: Answers, part: &mut [u8; 65536], answer: &[u8]) -> Compared {
-    let mut now = answers;
+    let mut now = behind_comments(answers, part);
     let mut i = 0;
     while i < answer.len() {
         now = ready(now, part);
@@ -96,7 +118,7 @@ pub(crate) fn compare(answers: Answers, part: &mut [u8; 65536], answer: &[u8]) -
 
 // Whether the file has no more answers.
 pub(crate) fn is_ended(answers: Answers, part: &mut [u8; 65536]) -> bool {
-    let now = ready(answers, part);
+    let now = behind_comments(answers, part);
     next_byte(now, part) == 256
 }
 

@@ -26,10 +26,10 @@ use libc::STDERR_FILENO;
 use libc::STDOUT_FILENO;
 
 // A longer line is an error.
-const LONGEST: usize = 200000;
+pub(crate) const LONGEST: usize = 200000;
 
 // Answers that are compared and not echoed are not written.
-fn write_out(way: Way, out: &[u8], waiting: usize) -> bool {
+pub(crate) fn write_out(way: Way, out: &[u8], waiting: usize) -> bool {
     if way.is_comparing & !way.is_echoing {
         return true;
     }
@@ -220,10 +220,12 @@ pub(crate) fn tell(
     wanted: &mut Part,
 ) -> Turn {
     let console = done.console;
+    let trace = done.trace;
     let start = done.start;
     let end = done.end;
     let mut next = now;
     next.console = console;
+    next.trace = trace;
     next.is_more = !done.is_left;
     if end <= start {
         // no answer, and no echo

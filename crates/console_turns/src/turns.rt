@@ -1,7 +1,14 @@
 // A turn of the program: more of the script is read, or one line of it is answered and told.
 use crate::answers::Answers;
+use crate::own::carry_out;
+use crate::own::is_own;
+use crate::own::own_said;
+use crate::own::writes;
 use crate::telling::flush;
 use crate::telling::tell;
+use crate::tracing::Shown;
+use crate::tracing::Trace;
+use crate::tracing::traced;
 use console_commands::Console;
 use console_commands::Executed;
 use console_files::Plan;
@@ -51,11 +58,12 @@ pub struct Way {
     pub is_comparing: bool,
 }
 
-// What the console holds; the length of the line under way; how many bytes of answers wait; the answers expected; the number
+// What the console holds; what is traced; the length of the line under way; how many bytes of answers wait; the answers expected; the number
 // of the last line; what of the part read is still to be taken; whether the script's end was met, whether there is more to be
 // done, and whether something failed.
 pub struct Turn {
     pub console: Console,
+    pub trace: Trace,
     pub length: usize,
     pub waiting: usize,
     pub answers: Answers,
@@ -67,10 +75,11 @@ pub struct Turn {
     pub is_failed: bool,
 }
 
-// What the console holds after a line, and the place behind its answer; how long the line is; where its answers begin, without and with an echo; whether it was one to
+// What the console holds after a line, what is traced from then on, and the place behind its answer; how long the line is; where its answers begin, without and with an echo; whether it was one to
 // leave at, whether it names a file, and whether its fault was told already.
 pub(crate) struct Done {
     pub console: Console,
+    pub trace: Trace,
     pub end: usize,
     pub length: usize,
     pub before: usize,
@@ -96,8 +105,16 @@ pub fn first_turn(answers: i32) -> Turn {
         number: 1,
         is_failed: false,
     };
+    let trace = Trace {
+        is_on: false,
+        fd: -1,
+        is_broken: false,
+        is_failed: false,
+        is_cut: false,
+    };
     Turn {
         console,
+        trace,
         length: 0,
         waiting: 0,
         answers: wanted,
@@ -169,34 +186,12 @@ fn gathered(line: &mut Line, length: usize, part: &Part, from: usize, filled: us
     gather(line, length, &whole[0..filled], from)
 }
 
-fn leaves(task: Task) -> bool {
-    match task {
-        Task::Leave => true,
-        Task::Console => false,
-        Task::Failed => false,
-        Task::Write => false,
-    }
+// Whether a terminal may have cut a line of this length.
+pub(crate) fn is_cut(way: Way, length: usize) -> bool {
+    way.is_typed & (TERMINAL <= length)
 }
 
-fn fails(task: Task) -> bool {
-    match task {
-        Task::Failed => true,
-        Task::Console => false,
-        Task::Leave => false,
-        Task::Write => false,
-    }
-}
-
-fn writes(task: Task) -> bool {
-    match task {
-        Task::Write => true,
-        Task::Console => false,
-        Task::Leave => false,
-        Task::Failed => false,
-    }
-}
-
-// A line that a terminal may have cut is not done.
+// Such a line is not done.
 fn plan_of(
     is_cut: bool,
     number: u64,
@@ -270,14 +265,6 @@ fn put_where(
     put_file(number, &notes[0..name], spare, out, start, end)
 }
 
-// The answer of a line whose file failed; one to leave at has none.
-fn error_if(is_failed: bool, out: &mut [u8], at: usize) -> usize {
-    if is_failed {
-        return text(out, at, b"error\n");
-    }
-    at
-}
-
 // The console's answer to the line in its array.
 fn ask_console(
     console: Console,
@@ -306,13 +293,41 @@ fn ask_console(
     )
 }
 
+// A line that is not the console's is carried out.
+fn answer_own(
+    console: Console,
+    trace: Trace,
+    number: u64,
+    planned: Plan,
+    length: usize,
+    before: usize,
+    start: usize,
+    out: &mut [u8],
+    notes: &[u8],
+) -> Done {
+    let task = planned.task;
+    let own = carry_out(task, number, trace, notes, planned.name);
+    let next = own.trace;
+    Done {
+        console,
+        trace: next,
+        end: own_said(own, out, start),
+        length,
+        before,
+        start,
+        is_left: own.is_left,
+        is_file: false,
+        is_told: true,
+    }
+}
+
 // The line in its array is answered.
 fn answer(
     way: Way,
     number: u64,
     console: Console,
+    shown: Shown,
     length: usize,
-    before: usize,
     line: &mut Line,
     memory: &mut Memory,
     queue: &mut Queue,
@@ -321,21 +336,23 @@ fn answer(
     out: &mut Out,
     notes: &mut Notes,
 ) -> Done {
+    let trace = shown.trace;
+    let before = shown.at;
     let start = echo(way.is_echoing, line, length, out, before);
-    let is_cut = way.is_typed & (TERMINAL <= length);
-    let planned = plan_of(is_cut, number, line, length, spare, notes);
+    let planned = plan_of(is_cut(way, length), number, line, length, spare, notes);
     let task = planned.task;
-    if leaves(task) | fails(task) {
-        return Done {
+    if is_own(task) {
+        return answer_own(
             console,
-            end: error_if(fails(task), out, start),
+            trace,
+            number,
+            planned,
             length,
             before,
             start,
-            is_left: leaves(task),
-            is_file: false,
-            is_told: true,
-        };
+            out,
+            notes,
+        );
     }
     let done = ask_console(
         console,
@@ -361,6 +378,7 @@ fn answer(
     );
     Done {
         console: next,
+        trace,
         end,
         length: planned.length,
         before,
@@ -414,12 +432,26 @@ fn take(
         next.length = 0;
         next.number = wrapping_add_u64(next.number, 1);
         let console = next.console;
+        let trace = next.trace;
+        let shown = traced(
+            way,
+            next.number,
+            trace,
+            console,
+            line,
+            reached.length,
+            memory,
+            queue,
+            spare,
+            out,
+            next.waiting,
+        );
         let done = answer(
             way,
             next.number,
             console,
+            shown,
             reached.length,
-            next.waiting,
             line,
             memory,
             queue,
@@ -443,11 +475,26 @@ fn take(
             );
         }
         let held = done.console;
+        let kept = done.trace;
         next.console = held;
+        next.trace = kept;
         next.waiting = done.end;
         if WAITING < next.waiting {
             return next;
         }
+    }
+    next
+}
+
+// Where a log could not be written something failed; where the lines of a trace could not be, nothing is left to be done.
+fn with_failures(now: Turn) -> Turn {
+    let mut next = now;
+    if now.trace.is_failed {
+        next.is_failed = true;
+    }
+    if now.trace.is_cut {
+        next.is_more = false;
+        next.waiting = 0;
     }
     next
 }
@@ -489,8 +536,9 @@ pub fn step(
         notes,
         wanted,
     );
-    if taken.is_more {
-        return taken;
+    let next = with_failures(taken);
+    if next.is_more {
+        return next;
     }
-    flush(way, taken, out)
+    flush(way, next, out)
 }

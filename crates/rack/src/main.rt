@@ -1,6 +1,7 @@
 // Reads a script from standard input, or from the file that the argument names, and tells the console's answers.
 mod options;
 
+use console_judge::judge_files;
 use console_turns::Way;
 use console_turns::closed;
 use console_turns::complain;
@@ -12,6 +13,7 @@ use options::Asked;
 use options::Options;
 use options::complain_of;
 use options::complain_of_unknown;
+use options::judge_at;
 use options::read_options;
 use options::say_help;
 use options::say_version;
@@ -163,7 +165,39 @@ fn status_of(options: Options) -> u8 {
     }
 }
 
+// The log that is named behind --judge, at this place among the arguments.
+fn judge_named(at: usize) -> u8 {
+    // it stands first or second
+    if 2 < at {
+        return 2;
+    }
+    if os::arg_count() != at + 4 {
+        complain_of(b"behind --judge stand the files of a sheet, a memory and a log");
+        return 2;
+    }
+    let mut sheet = io::buffer();
+    let mut image = io::buffer();
+    let mut log = io::buffer();
+    let n = os::arg(at + 1, &mut sheet);
+    let m = os::arg(at + 2, &mut image);
+    let k = os::arg(at + 3, &mut log);
+    judge_files(&sheet[..n], &image[..m], &log[..k])
+}
+
+// The status of judging is told to a script that stands behind it.
+fn judge_and_report(at: usize) {
+    let status = judge_named(at);
+    if at == 2 {
+        io::print_decimal(REPORT, status as u64);
+    }
+}
+
 fn main() {
+    let at = judge_at();
+    if at != 0 {
+        judge_and_report(at);
+        return;
+    }
     let options = read_options();
     let status = status_of(options);
     if options.is_reporting {

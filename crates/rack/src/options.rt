@@ -99,10 +99,25 @@ fn with_word(options: Options, word: &[u8], i: usize) -> Options {
     with_script(options, i, false)
 }
 
-fn is_expect(i: usize) -> bool {
+fn is_word(i: usize, word: &[u8]) -> bool {
     let mut space = io::buffer();
     let n = os::arg(i, &mut space);
-    same(&space[..n], b"--expect")
+    same(&space[..n], word)
+}
+
+fn is_expect(i: usize) -> bool {
+    is_word(i, b"--expect")
+}
+
+// Where --judge stands, which is first or behind --report; 0 for nowhere.
+pub(crate) fn judge_at() -> usize {
+    if is_word(1, b"--judge") {
+        return 1;
+    }
+    if is_word(1, b"--report") & is_word(2, b"--judge") {
+        return 2;
+    }
+    0
 }
 
 fn with_argument(options: Options, i: usize) -> Options {
@@ -135,23 +150,27 @@ pub(crate) fn read_options() -> Options {
 }
 
 pub(crate) fn say_version() {
-    io::write_all(STDOUT_FILENO, b"rack 4.1.0\n");
+    io::write_all(STDOUT_FILENO, b"rack 4.2.0\n");
 }
 
 pub(crate) fn say_help() {
     io::write_all(
         STDOUT_FILENO,
         b"usage: rack [--explain] [--echo] [--expect ANSWERS] [FILE | -]
+       rack --judge SHEET MEMORY LOG
 
 Runs the rack program FILE, or standard input, and writes one answer for each command.
   --explain          says on standard error why an answer is error or refused
   --echo             writes each command before its answer
   --expect ANSWERS   writes no answers, but compares them with those in the file ANSWERS
   -                  standard input, as no name; at a terminal the program asks for each line
+  --judge ..         judges the log in the file LOG, from the state in the sheet's file
+                     SHEET and the 65536 bytes of the file MEMORY
   --version          tells the version
   --help             tells this
 Status, told by the script that starts the program: 1 where an answer was error or not the
-one expected, or a file failed; 2 where the arguments are wrong.
+one expected, or a file failed, of a log that it is wrong; 2 where the arguments are wrong, of
+a log that judging it was refused or a file failed.
 ",
     );
 }

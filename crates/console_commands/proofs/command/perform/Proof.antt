@@ -31,8 +31,8 @@ returns-3 c =
 returns-4 : tie.Need-returns-4
 unfolding does
 returns-4 c =
-    let at-on-services = c .before .before .before .before .before .before in
-    let at-command3 = at-on-services .before .before .before .before .before .before in
+    let at-on-services = c .before .before .before .before .before .before .before .before in
+    let at-command3 = at-on-services .before .before .before .before .before .before .before in
     let entry = at-command3 .before .before .before .before .before .before .before .before .before in
     let s = entry .args in (record { shown = []; so = simp (at-command3 .command3 .given .1) (at-on-services .on-services .ensures .0) }, at-on-services .on-services .ensures .1)
 
@@ -53,5 +53,5 @@ returns-6 c =
 pub perform-spec : {M : Type 1} → statement M
 perform-spec = tie.close (tie.spec (search needs) (search needs) (search needs) (search needs) (search needs) (search needs) (search needs)
     (search needs) (search needs) (search needs) (search needs) returns (search needs) (search needs) returns-2 (search needs) (search needs)
-    (search needs) (search needs) returns-3 (search needs) (search needs) (search needs) (search needs) returns-4 (search needs) (search needs)
-    returns-5 (search needs) returns-6)
+    (search needs) (search needs) returns-3 (search needs) (search needs) (search needs) (search needs) (search needs) returns-4 (search needs)
+    (search needs) returns-5 (search needs) returns-6)

@@ -12,4 +12,4 @@ abbrev μ-loop : tie.MeasureT-loop
 
 pub compare-spec : {M : Type 1} → statement M
 compare-spec = tie.close (tie.spec Inv-loop μ-loop (search needs) (search needs) (search needs) (search needs) (search needs) (search needs)
-    (search needs) (search needs) (search needs) (search needs) (search needs))
+    (search needs) (search needs) (search needs) (search needs) (search needs) (search needs))
