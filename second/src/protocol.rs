@@ -1,6 +1,8 @@
 //! The line protocol: one console, which answers each command line with one line.
 
 use crate::faults::{self, Fault};
+use crate::judge::Verdict;
+use crate::record::{Record, READ, WRITE};
 use crate::round::{RoundStop, RoundTally};
 use crate::run::{Stop, Tally};
 use crate::sheet::{convert, Form};
@@ -101,6 +103,8 @@ impl Console {
             [b"load2", hex] => self.load(Form::Two, &bytes(hex)?),
             [b"forward", hex, length] => self.forward(&bytes(hex)?, number(length)?),
             [b"back", hex, length] => self.back(&bytes(hex)?, number(length)?),
+            [b"judge", hex] => self.judge(&bytes(hex)?),
+            [b"judge"] if faults::on(Fault::JudgeBareLine) => self.judge(&[]),
             _ => Err(Fail::Error),
         }
     }
@@ -307,6 +311,40 @@ impl Console {
         }
         Ok(format!("bytes {}", to_hex(&slice)))
     }
+
+    /// "State and lent memory are as the good records made them"; queue and room are neither asked
+    /// nor changed.
+    fn judge(&mut self, log: &[u8]) -> Answer {
+        let memory = &mut self.memory[..self.lent];
+        let (next, verdict) = self.controller.judge(memory, log)?;
+        self.controller = next;
+        self.harm_device(good_part(log, verdict));
+        Ok(judge_answer(verdict))
+    }
+
+    /// Nothing, but for two of the faults: the log has the device's bytes.
+    fn harm_device(&mut self, good: &[u8]) {
+        for record in good.as_chunks().0.iter().map(|&bytes| Record::from_bytes(bytes)) {
+            match (faults::chosen(), record.kind) {
+                (Some(Fault::JudgeUsesQueue), WRITE) => {
+                    self.queue.pop_front();
+                }
+                (Some(Fault::JudgeFillsRoom), READ) if self.position < self.room.len() => {
+                    self.room[self.position] = record.data;
+                    self.position += 1;
+                }
+                _ => {}
+            }
+        }
+    }
+}
+
+/// The records before the first wrong one.
+fn good_part(log: &[u8], verdict: Verdict) -> &[u8] {
+    match verdict {
+        Verdict::Accepted { .. } => log,
+        Verdict::Wrong { at, .. } => &log[..at],
+    }
 }
 
 /// "a slice of N bytes 0xEE (N at most 70,000)"
@@ -325,6 +363,14 @@ fn run_answer(stop: Stop, tally: &Tally) -> String {
 fn round_answer(stop: RoundStop, tally: &RoundTally) -> String {
     let [a, b, c, d] = tally.services;
     format!("{} services={a},{b},{c},{d} {}", stop.word(), tally_answer(&tally.total))
+}
+
+/// "E in decimal, `-` before a negative one".
+fn judge_answer(verdict: Verdict) -> String {
+    match verdict {
+        Verdict::Accepted { records } => format!("accepted records={records}"),
+        Verdict::Wrong { at, error } => format!("wrong at={at} error={error}"),
+    }
 }
 
 fn tally_answer(tally: &Tally) -> String {

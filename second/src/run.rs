@@ -82,6 +82,11 @@ impl Controller {
         }
         Ok((next, stop, service.tally))
     }
+
+    /// "With command bit 0 set, a service of channel 0 is this, whatever its mode".
+    pub fn is_memory_to_memory(self) -> bool {
+        self.command & 1 != 0 && self.serving == 0
+    }
 }
 
 /// "7: memory not of 65,536 bytes"
@@ -100,7 +105,7 @@ impl Service<'_> {
                 return stop;
             }
             let meets_eop = eop != 0 && self.tally.transfers + 1 == eop;
-            if self.is_memory_to_memory() {
+            if self.controller.is_memory_to_memory() {
                 self.transfer_memory_to_memory(meets_eop);
             } else {
                 self.transfer(meets_eop);
@@ -112,15 +117,10 @@ impl Service<'_> {
         }
     }
 
-    /// "With command bit 0 set, a service of channel 0 is this, whatever its mode".
-    fn is_memory_to_memory(&self) -> bool {
-        self.controller.command & 1 != 0 && self.controller.serving == 0
-    }
-
     /// "Before each transfer, in order"; in memory-to-memory "steps 1, 2 and 4 don't apply".
     fn stops_before_transfer(&mut self, limit: u64) -> Option<Stop> {
         let limit_reached = self.tally.transfers >= limit;
-        if self.is_memory_to_memory() && !self.pair_drops() {
+        if self.controller.is_memory_to_memory() && !self.pair_drops() {
             return limit_reached.then_some(Stop::Limit);
         }
         if faults::on(Fault::LimitFirst) && limit_reached {
@@ -309,7 +309,7 @@ impl Service<'_> {
     fn tc_bits_of_eop(&self, number: usize) -> u8 {
         let bit = if self.controller.is_intel() { 1 << number } else { 0 };
         let channel = self.controller.channels[number];
-        let pair = self.is_memory_to_memory();
+        let pair = self.controller.is_memory_to_memory();
         match faults::chosen() {
             Some(Fault::EopSetsTc) => 1 << number,
             Some(Fault::IntelEopKeepsTc) => 0,

@@ -34,7 +34,7 @@ impl Writer {
         let small = Number(self.random.below(16));
         let byte = Number(u64::from(self.random.byte()));
         let bytes = Hex(self.random.bytes(2));
-        match self.random.below(26) {
+        match self.random.below(28) {
             0 => vec![Name("write"), small, byte],
             1 => vec![Name("read"), small],
             2 => vec![Name("pins"), small],
@@ -59,6 +59,7 @@ impl Writer {
             22 => vec![Name("load2"), bytes],
             23 => vec![Name("forward"), bytes, small],
             24 => vec![Name("back"), bytes, small],
+            25..=26 => vec![Name("judge"), bytes],
             _ => vec![Name("state"), bytes],
         }
     }

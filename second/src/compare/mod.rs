@@ -5,6 +5,8 @@ pub mod damage;
 pub mod editions;
 pub mod ending;
 pub mod forms;
+pub mod judging;
+pub mod logs;
 pub mod pairs;
 pub mod program;
 pub mod random;

@@ -15,8 +15,7 @@ const MOST_POKED: u64 = 300;
 impl Writer {
     /// Is the open service one of memory-to-memory?
     pub fn serves_a_pair(&self) -> bool {
-        let now = self.controller();
-        now.serving == 0 && now.command & 1 != 0
+        self.controller().is_memory_to_memory()
     }
 
     /// How far channel 0's count is from going through 0, now or at one of the next times.
@@ -39,7 +38,7 @@ impl Writer {
         self.reach(plan);
         self.poke_near(plan.channels[0].current_address);
         self.say(&[Name("grant")]);
-        self.run();
+        self.run_or_judge();
     }
 
     /// Channels 0 and 1, their places often over each other.

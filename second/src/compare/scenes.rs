@@ -1,5 +1,6 @@
 //! What a script does: single commands and short scenes, chosen by what the live model is doing.
 
+use super::judging::has_a_long_log;
 use super::random::Random;
 use super::values;
 use super::waiting::has_a_wide_round;
@@ -16,19 +17,22 @@ pub fn write_script(seed: u64, number: u64, odd: bool) -> Script {
         return write_long_script(number);
     }
     let mut writer = Writer::new(Random::new(seed, number), odd);
-    writer.write_body(has_a_wide_round(number));
+    writer.write_body(number);
     writer.write_end();
     writer.finish(number)
 }
 
 impl Writer {
-    fn write_body(&mut self, wide: bool) {
+    fn write_body(&mut self, number: u64) {
         self.budget = [2_500, 15_000, 210_000][self.random.weighted(&[80, 14, 6])];
         let length = self.random.between(6, 60) as usize;
         self.choose_editions();
         self.choose_waits();
-        if wide {
+        if has_a_wide_round(number) {
             self.wide_round();
+        }
+        if has_a_long_log(number) {
+            self.long_log();
         }
         if self.random.chance(70) {
             self.prepare_memory_and_device();
@@ -81,7 +85,7 @@ impl Writer {
     fn step_in_service(&mut self) {
         // A cascade service only waits for its line to go.
         let run = if self.stays_in_cascade() { 15 } else { 55 };
-        match self.random.weighted(&[run, 18, 10, 4, 3, 3, 8, 2, 3, 1, 2, 2, 3, 3, 6]) {
+        match self.random.weighted(&[run, 18, 10, 4, 3, 3, 8, 2, 3, 1, 2, 2, 3, 3, 6, 12]) {
             0 => self.run(),
             1 => self.pins(),
             2 => self.device(),
@@ -96,7 +100,8 @@ impl Writer {
             11 => self.clear_mask(),
             12 => self.scene_of_editions(),
             13 => self.scene_of_waits(),
-            _ => self.scene_of_sheets(),
+            14 => self.scene_of_sheets(),
+            _ => self.judge_open_service(),
         }
     }
 
@@ -108,7 +113,7 @@ impl Writer {
 
     fn step_idle(&mut self) {
         let scenes = [22, 13, 18, 16];
-        let others = [3, 6, 15, 8, 10, 6, 10, 2, 2, 4, 3, 5, 2, 6, 1, 14, 8, 8, 20];
+        let others = [3, 6, 15, 8, 10, 6, 10, 2, 2, 4, 3, 5, 2, 6, 1, 14, 8, 8, 20, 34];
         match self.random.weighted(&[&scenes[..], &others[..]].concat()) {
             0 => self.scene_of_one_service(),
             1 => self.scene_of_memory_to_memory(),
@@ -132,7 +137,8 @@ impl Writer {
             19 => self.scene_of_editions(),
             20 => self.scene_of_eop(),
             21 => self.scene_of_waits(),
-            _ => self.scene_of_sheets(),
+            22 => self.scene_of_sheets(),
+            _ => self.scene_of_a_log(),
         }
     }
 
@@ -150,7 +156,7 @@ impl Writer {
 
     /// Any operation, whatever the state: most are refused.
     pub fn any_operation(&mut self) {
-        match self.random.below(12) {
+        match self.random.below(13) {
             0 => self.write_some_register(),
             1 => self.read_some_register(),
             2 => self.pins(),
@@ -162,6 +168,7 @@ impl Writer {
             8 => self.master_clear(),
             9 => self.set_waits(),
             10 => self.convert(),
+            11 => self.judge_something(),
             _ => self.fresh(),
         }
     }
@@ -322,7 +329,7 @@ impl Writer {
         self.reach(plan);
         self.provide_for(number);
         self.say(&[Name("grant")]);
-        self.run();
+        self.run_or_judge();
     }
 
     /// Bytes or room about as many as the channel's count asks for.

@@ -3,6 +3,7 @@
 use super::sheets::form_read_by;
 use super::sides::Text;
 use crate::protocol::to_hex;
+use crate::record::RECORD_LENGTH;
 use std::time::Instant;
 
 /// Does this script still differ?
@@ -85,7 +86,7 @@ fn smaller_lines(line: &[u8]) -> Vec<Text> {
 fn smaller_words(command: &str, index: usize, word: &str) -> Vec<String> {
     let sheet = form_read_by(command);
     let is_hex = match command {
-        "state" | "full" | "feed" => index == 1,
+        "state" | "full" | "feed" | "judge" => index == 1,
         "poke" => index == 2,
         _ => sheet.is_some() && index == 1,
     };
@@ -95,6 +96,7 @@ fn smaller_words(command: &str, index: usize, word: &str) -> Vec<String> {
     match (bytes_of(word), sheet) {
         (Some(bytes), Some(form)) => without_front(&bytes, word, form.length()),
         (Some(bytes), None) if matches!(command, "state" | "full") => with_a_zero(&bytes),
+        (Some(bytes), None) if command == "judge" => fewer_records(&bytes),
         (Some(bytes), None) => fewer_bytes(&bytes),
         (None, _) => Vec::new(),
     }
@@ -155,6 +157,19 @@ fn fewer_bytes(bytes: &[u8]) -> Vec<String> {
     let mut words = vec![to_hex(half), to_hex(&bytes[1..]), to_hex(&bytes[..bytes.len() - 1])];
     if bytes.len() < 64 {
         words.extend(with_a_zero(bytes));
+    }
+    words
+}
+
+/// A log without its second half, its last record or its last byte, or with a byte that is 0.
+fn fewer_records(log: &[u8]) -> Vec<String> {
+    let records = log.len() / RECORD_LENGTH;
+    let mut lengths = vec![records / 2 * RECORD_LENGTH, log.len().saturating_sub(1)];
+    lengths.insert(1, log.len().saturating_sub(RECORD_LENGTH));
+    lengths.retain(|&length| length < log.len());
+    let mut words: Vec<String> = lengths.iter().map(|&length| to_hex(&log[..length])).collect();
+    if log.len() < 64 {
+        words.extend(with_a_zero(log));
     }
     words
 }

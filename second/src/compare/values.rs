@@ -112,7 +112,7 @@ pub fn state(random: &mut Random, heavy: bool) -> Controller {
 }
 
 /// A service of some channel, its latch empty, right, near or wrong.
-fn open_service(random: &mut Random, state: &mut Controller) {
+pub fn open_service(random: &mut Random, state: &mut Controller) {
     state.in_service = 1;
     state.serving = random.below(4) as u8;
     if random.chance(50) {

@@ -151,9 +151,10 @@ impl Writer {
     }
 }
 
-/// The number behind "transfers=" in an answer, or 0.
+/// The transfers that an answer tells, or the records of a log that was accepted, or 0.
 fn transfers_in(answer: &str) -> u64 {
-    let Some((_, rest)) = answer.split_once("transfers=") else {
+    let marked = ["transfers=", "records="].iter().find_map(|mark| answer.split_once(mark));
+    let Some((_, rest)) = marked else {
         return 0;
     };
     let digits = rest.split(' ').next().unwrap_or("0");

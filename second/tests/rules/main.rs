@@ -1,5 +1,5 @@
-//! The cases of document 01, its refusals, its list of errors, document 02's requests A1 to A3, A5
-//! and A6, and the line protocol.
+//! The cases of document 01, its refusals, its list of errors, document 02's requests A1 to A3, A5,
+//! A6 and A8, and the line protocol.
 
 mod cases;
 mod channel_zero;
@@ -8,8 +8,11 @@ mod edition_lines;
 mod editions;
 mod form_lines;
 mod form_two;
+mod judge_lines;
+mod judging;
 mod picking;
 mod protocol;
+mod records;
 mod refusals;
 mod trade_errors;
 mod wait_lines;
