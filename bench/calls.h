@@ -4,7 +4,7 @@
 #include "works.h"
 
 /* Families of works, behind those of harness.c. */
-enum { C_NOTHING = 7, C_WRITE, C_READ, C_PINS, C_RESET, C_GRANT, C_CHECK, C_ENTITLED, C_STATUS, C_FRESH, C_SAVE, C_LOAD, C_RUN, C_ROUND, C_WAITS, C_SAVE2, C_LOAD2, C_FORWARD, C_BACK, C_OVER };
+enum { C_NOTHING = 7, C_WRITE, C_READ, C_PINS, C_RESET, C_GRANT, C_CHECK, C_ENTITLED, C_STATUS, C_FRESH, C_SAVE, C_LOAD, C_RUN, C_ROUND, C_WAITS, C_SAVE2, C_LOAD2, C_FORWARD, C_BACK, C_JUDGE, C_OVER };
 
 #define CALLS_OF(side) \
     u32 side##_check(const am9517_chip *); \
@@ -24,7 +24,8 @@ enum { C_NOTHING = 7, C_WRITE, C_READ, C_PINS, C_RESET, C_GRANT, C_CHECK, C_ENTI
     u32 side##_forward(const u8 *, usize, u8 *, usize); \
     u32 side##_back(const u8 *, usize, u8 *, usize); \
     am9517_run_told side##_run(am9517_chip *, u8 *, usize, const u8 *, usize, u8 *, usize, u64, u64); \
-    am9517_round_told side##_round(am9517_chip *, u8 *, usize, const u8 *, usize, u8 *, usize, u32);
+    am9517_round_told side##_round(am9517_chip *, u8 *, usize, const u8 *, usize, u8 *, usize, u32); \
+    am9517_judge_told side##_judge(am9517_chip *, u8 *, usize, const u8 *, usize);
 
 CALLS_OF(plain_am9517)
 
@@ -47,11 +48,12 @@ struct calls {
     u32 (*back)(const u8 *, usize, u8 *, usize);
     am9517_run_told (*run)(am9517_chip *, u8 *, usize, const u8 *, usize, u8 *, usize, u64, u64);
     am9517_round_told (*round)(am9517_chip *, u8 *, usize, const u8 *, usize, u8 *, usize, u32);
+    am9517_judge_told (*judge)(am9517_chip *, u8 *, usize, const u8 *, usize);
 };
 
 #define ALL_OF(side) \
     {side##_check, side##_write, side##_read, side##_pins, side##_reset, side##_waits, side##_grant, side##_entitled, side##_status, \
-     side##_fresh, side##_save, side##_load, side##_save2, side##_load2, side##_forward, side##_back, side##_run, side##_round}
+     side##_fresh, side##_save, side##_load, side##_save2, side##_load2, side##_forward, side##_back, side##_run, side##_round, side##_judge}
 
 static const struct calls CALLS[2] = {ALL_OF(am9517), ALL_OF(plain_am9517)};
 
@@ -65,6 +67,8 @@ static u64 round_sum(am9517_round_told t)
     return 256 * t.refusal + t.reason + begun + 2 * t.transfers + 3 * t.used + 5 * t.written + 7 * t.states;
 }
 
+static u64 judge_sum(am9517_judge_told t) { return 256 * t.refusal + 2 * t.right + ((u64)(u32)t.error << 32); }
+
 /* What a call is given, beside the chip: `sheet` is for form 1, `second` for form 2. */
 struct given {
     u32 reg, k;
@@ -73,6 +77,8 @@ struct given {
     u8 *memory, *room, *sheet, *second;
     usize device_size, memory_size, room_size, sheet_size, second_size;
     u64 limit, eop_at;
+    const u8 *log;
+    usize log_size;
 };
 
 /* Each turn calls with the chip of the start; `chip` has what the last one left. */
@@ -107,6 +113,7 @@ static u64 do_call(int family, int side, const am9517_chip *start, am9517_chip *
     case C_RUN:
         TURNS(run_sum(c->run(chip, g->memory, g->memory_size, g->device, g->device_size, g->room, g->room_size, g->limit, g->eop_at)))
     case C_ROUND: TURNS(round_sum(c->round(chip, g->memory, g->memory_size, g->device, g->device_size, g->room, g->room_size, g->k)))
+    case C_JUDGE: TURNS(judge_sum(c->judge(chip, g->memory, g->memory_size, g->log, g->log_size)))
     default: TURNS(({ __asm__ volatile("" ::: "memory"); 0; }))
     }
 }

@@ -16,8 +16,8 @@ struct timespec { long seconds, nanoseconds; };
 int clock_gettime(int, struct timespec *);
 
 enum { PROVED, PLAIN };
-enum { NOTHING, WRITE, READ, RUN, ROUND, LOOP, MEMCPY };
-enum { LENT = 1 << 20, WORKS_MAX = 2000 };
+enum { NOTHING, WRITE, READ, RUN, ROUND, LOOP, MEMCPY, JUDGE = C_OVER };
+enum { LENT = 1 << 20, WORKS_MAX = 2000, RECORDS_MAX = 65536 };
 
 struct work {
     int side, family;
@@ -26,6 +26,8 @@ struct work {
 };
 
 static u8 memory[65537], device[LENT], room[LENT];
+static u8 logged[8 * RECORDS_MAX + 64];
+static usize log_size;
 static struct work works[WORKS_MAX];
 
 __attribute__((noinline)) void mark(void) { __asm__ volatile(".byte 0x0f, 0x1f, 0x80, 0x4d, 0x41, 0x52, 0x4b" ::: "memory"); }
@@ -64,24 +66,54 @@ static void put_second(u8 *second, const u8 *sheet, u32 edition, u32 waits)
     put_trailer(second, 2, 50);
 }
 
-static int is_run(const struct work *w) { return w->family == RUN || w->family == C_RUN; }
+static int is_judging(const struct work *w) { return w->family == JUDGE || w->family == C_JUDGE; }
+
+/* The service of channel 0 is open. */
+static int is_open(const struct work *w) { return w->family == RUN || w->family == C_RUN || is_judging(w); }
 
 static int is_round(const struct work *w) { return w->family == ROUND || w->family == C_ROUND; }
 
-/* All lines active and unmasked; for a run the service of channel 0 is open. */
+/* All lines active and unmasked; for a run and a log the service of channel 0 is open. */
 static void put_state(u8 *sheet, const struct work *w)
 {
     for (int i = 0; i < 48; i++) sheet[i] = 0;
     for (u32 n = 0; n < 4; n++) {
         u32 address = is_round(w) ? n * 0x4000 : n == 1 ? w->to : w->from;
-        u32 bytes = n == 0 && is_run(w) && w->k != 0 ? w->k : w->length;
-        put_channel(sheet, n, address, bytes - 1, n == 1 && is_run(w) ? w->other_mode : w->mode);
+        u32 bytes = n == 0 && is_open(w) && w->k != 0 ? w->k : w->length;
+        put_channel(sheet, n, address, bytes - 1, n == 1 && is_open(w) ? w->other_mode : w->mode);
     }
     sheet[36] = (u8)w->command;
     sheet[42] = 15;
     sheet[43] = 3;
-    sheet[44] = (u8)is_run(w);
+    sheet[44] = (u8)is_open(w);
     put_trailer(sheet, 1, 48);
+}
+
+/* ---- logs ---- */
+
+static u16 moved(u16 address, u8 mode) { return mode & 32 ? (u16)(address - 1) : (u16)(address + 1); }
+
+/* The log of the service that is open, as an honest replica with this memory makes it: until it ends, by TC, by EOP at this record
+   (0: none) or as a single transfer, or so many records are made. */
+static void put_log(const am9517_chip *start, u32 most, u32 eop_at)
+{
+    static u8 seen[65536];
+    am9517_chip c = *start;
+    u32 n = c.serving & 3, copies = n == 0 ? c.command & 1 : 0, kind = copies ? 3 : c.channels[n].mode >> 2 & 3, last = 0;
+    am9517_channel *from = &c.channels[n], *to = &c.channels[1];
+    memcpy(seen, memory, sizeof seen);
+    log_size = 0;
+    for (u32 made = 1; made <= most && !last; made++, log_size += 8) {
+        u8 byte = kind == 0 ? 0 : kind == 1 ? device[made] : seen[from->address], *r = logged + log_size;
+        u32 tc = (copies ? to : from)->count == 0, eop = made == eop_at;
+        last = tc | eop | (!copies && from->mode >> 6 == 1);
+        r[0] = (u8)n, r[1] = (u8)kind, r[6] = byte, r[7] = (u8)(tc | eop << 1 | last << 2);
+        put_word(r + 2, from->address), put_word(r + 4, copies ? to->address : 0);
+        if (copies) seen[to->address] = byte, to->address = moved(to->address, to->mode), to->count--;
+        if (kind == 1) seen[from->address] = byte;
+        if (!copies || !(c.command & 2)) from->address = moved(from->address, from->mode);
+        if (from->count-- == 0 && copies && from->mode & 16) from->address = from->base_address, from->count = from->base_count;
+    }
 }
 
 /* ---- calls of the C library ---- */
@@ -97,11 +129,11 @@ static u64 sheets_sum(const u8 *sheet, const u8 *second)
 static u64 do_c_work(const struct work *w, u64 times, u8 *sheet)
 {
     u8 second[58];
-    struct given g = {w->reg, w->k, (u8)w->byte, device, memory, room, sheet, second, LENT, 65536, LENT, 56, 58, 65536, 0};
+    struct given g = {w->reg, w->k, (u8)w->byte, device, memory, room, sheet, second, LENT, 65536, LENT, 56, 58, 65536, 0, logged, log_size};
     put_second(second, sheet, w->k, 0);
     am9517_chip start = am9517_fresh(AM9517_EDITION_AM9517A), chip = start;
     am9517_load(&start, sheet, 56);
-    if (is_run(w) || is_round(w)) start.waits = (u8)w->byte;
+    if (is_open(w) || is_round(w)) start.waits = (u8)w->byte;
     else start.edition = (u8)w->k;
     u64 sum = do_call(w->family, w->side, &start, &chip, &g, times) + sheets_sum(sheet, second);
     chip.edition = AM9517_EDITION_AM9517A, chip.waits = 0; /* a sheet has no place for others */
@@ -136,19 +168,39 @@ static u64 copy_library(u8 *to, const u8 *from, usize n, u64 times)
     case READ: return side##_read(first, 56, second, 56, w->reg, w->reg, times); \
     case RUN: return side##_run(first, 56, second, 56, memory, 65536, device, LENT, room, LENT, 65536, 0, times); \
     case ROUND: return side##_round(first, 56, second, 56, memory, 65536, device, LENT, room, LENT, w->k, times); \
+    case JUDGE: told = side##_judge(first, 56, second, 56, memory, 65536, logged, log_size, &error, times); break; \
     case LOOP: return copy_loop(memory, device, w->length, times); \
     default: return copy_library(memory, device, w->length, times); \
     }
 
+/* What a work starts from: its state, as a sheet, and its log. */
+static void prepare(const struct work *w, u8 *first)
+{
+    am9517_chip start = am9517_fresh(AM9517_EDITION_AM9517A);
+    put_state(first, w);
+    if (!is_judging(w)) return;
+    am9517_load(&start, first, 56);
+    put_log(&start, w->length, 0);
+    if (w->reg != 0) logged[8 * w->reg - 5] ^= 0x80;
+}
+
 /* The state after it is left in `first`. */
-static u64 do_work(const struct work *w, u64 times, u8 *first)
+static u64 do_prepared(const struct work *w, u64 times, u8 *first)
 {
     u8 second[56];
-    put_state(first, w);
-    if (w->family >= C_NOTHING) return do_c_work(w, times, first);
+    u64 told = 0;
+    int error = 0;
+    if (w->family >= C_NOTHING && w->family < C_OVER) return do_c_work(w, times, first);
     memcpy(second, first, 56);
     if (w->side == PROVED) DO(meter)
     else DO(plain)
+    return told + ((u64)(u32)error << 32);
+}
+
+static u64 do_work(const struct work *w, u64 times, u8 *first)
+{
+    prepare(w, first);
+    return do_prepared(w, times, first);
 }
 
 /* ---- counting and timing ---- */
@@ -185,8 +237,9 @@ static double seconds(void)
 static double time_of(const struct work *w, u64 times)
 {
     u8 sheet[56];
+    prepare(w, sheet);
     double began = seconds();
-    do_work(w, times, sheet);
+    do_prepared(w, times, sheet);
     return seconds() - began;
 }
 
@@ -215,9 +268,29 @@ static struct {
     u64 told;
 } left;
 
-static u64 do_afresh(struct work *w, int side, u8 *sheet)
+static void fill_memory(void)
 {
     for (int i = 0; i < 65537; i++) memory[i] = (u8)(i * 31 + i / 253);
+}
+
+/* A work's log is right up to where it was made wrong, and again on the memory that the first judging left: each turn does the same. */
+static int is_steady(const struct work *w)
+{
+    u8 sheet[56];
+    if (!is_judging(w)) return 1;
+    fill_memory();
+    prepare(w, sheet);
+    for (int turn = 0; turn < 2; turn++) {
+        am9517_chip chip = am9517_fresh(AM9517_EDITION_AM9517A);
+        am9517_load(&chip, sheet, 56);
+        if (am9517_judge(&chip, memory, 65536, logged, log_size).right != (w->reg != 0 ? 8 * (w->reg - 1) : log_size)) return 0;
+    }
+    return 1;
+}
+
+static u64 do_afresh(struct work *w, int side, u8 *sheet)
+{
+    fill_memory();
     for (int i = 0; i < LENT; i++) room[i] = 0xee;
     w->side = side;
     return do_work(w, w->times, sheet);
@@ -230,7 +303,7 @@ static int same(int n)
         u8 sheet[56];
         left.told = do_afresh(&works[i], PROVED, left.sheet);
         memcpy(left.memory, memory, sizeof memory), memcpy(left.room, room, sizeof room);
-        if (do_afresh(&works[i], PLAIN, sheet) == left.told && memcmp(sheet, left.sheet, 56) == 0 &&
+        if (is_steady(&works[i]) && do_afresh(&works[i], PLAIN, sheet) == left.told && memcmp(sheet, left.sheet, 56) == 0 &&
             memcmp(memory, left.memory, sizeof memory) == 0 && memcmp(room, left.room, sizeof room) == 0)
             continue;
         printf("line %d differs\n", i + 1);
@@ -295,7 +368,8 @@ static u64 random_work(int side, struct outcome *o, const u8 *second, int family
     u8 *first = o->sheet;
     usize lent = number[0], bytes = number[1], places = number[2];
     u32 reg = (u32)number[3];
-    u64 times = number[6];
+    u64 times = number[6], told;
+    int error = 0;
     switch (2 * family + side) {
     case 2 * WRITE + PROVED: return meter_write(first, 56, second, 56, reg, reg, (u8)number[4], times);
     case 2 * WRITE + PLAIN: return plain_write(first, 56, second, 56, reg, reg, (u8)number[4], times);
@@ -305,6 +379,12 @@ static u64 random_work(int side, struct outcome *o, const u8 *second, int family
         return meter_run(first, 56, second, 56, o->memory, lent, device, bytes, o->room, places, number[4], number[5], times);
     case 2 * RUN + PLAIN:
         return plain_run(first, 56, second, 56, o->memory, lent, device, bytes, o->room, places, number[4], number[5], times);
+    case 2 * JUDGE + PROVED:
+        told = meter_judge(first, 56, second, 56, o->memory, lent, logged, log_size, &error, times);
+        return told + ((u64)(u32)error << 32);
+    case 2 * JUDGE + PLAIN:
+        told = plain_judge(first, 56, second, 56, o->memory, lent, logged, log_size, &error, times);
+        return told + ((u64)(u32)error << 32);
     case 2 * ROUND + PROVED:
         return meter_round(first, 56, second, 56, o->memory, lent, device, bytes, o->room, places, (u32)number[4], times);
     default:
@@ -312,13 +392,36 @@ static u64 random_work(int side, struct outcome *o, const u8 *second, int family
     }
 }
 
+/* Honest for some records, or to the end of the service; then, mostly, damaged somewhere, cut, ended by EOP, or with more behind it. */
+static void put_random_log(const am9517_chip *start)
+{
+    put_log(start, random_below(8) ? random_below(40) : random_word() + 1, random_below(3) ? 0 : random_below(30));
+    if (log_size != 0) {
+        u32 place = random_below((u32)log_size);
+        switch (random_below(5)) {
+        case 0: logged[place] ^= (u8)(1u << random_below(8)); break;
+        case 1: logged[place] = (u8)random_below(256); break;
+        case 2: logged[place | 7] ^= 6; break;
+        case 3: log_size -= random_below(8); break;
+        default: break;
+        }
+    }
+    if (random_below(4) == 0)
+        for (u32 more = random_below(20); more > 0; more--) logged[log_size++] = (u8)random_below(random_below(2) ? 4 : 256);
+}
+
 /* One random work on both sides; 0 where they agree. */
 static int differs(void)
 {
-    int family = WRITE + (int)random_below(4);
+    int drawn = WRITE + (int)random_below(5), family = drawn > ROUND ? JUDGE : drawn, open = family == RUN || family == JUDGE;
     u8 first[56], second[56];
-    put_random_state(first, random_below(16) ? family == RUN : family != RUN);
-    put_random_state(second, family == RUN);
+    put_random_state(first, random_below(16) ? open : !open);
+    put_random_state(second, open);
+    if (family == JUDGE) {
+        am9517_chip start = am9517_fresh(AM9517_EDITION_AM9517A);
+        am9517_load(&start, first, 56);
+        put_random_log(&start);
+    }
     u64 edge = random_below(3) ? random_below(40) : random_word();
     u64 number[7] = {random_below(16) ? 65536 : random_near(65536) & 65535, random_below(3) ? 70000 : random_below(300),
                      random_below(3) ? 8192 : random_below(300), random_below(17), edge, random_below(2) ? random_below(30) : 0,
@@ -370,7 +473,7 @@ static u64 random_eop(const am9517_chip *c)
    they agree. */
 static int call_differs(void)
 {
-    int family = C_WRITE + (int)random_below(C_OVER - C_WRITE), open = random_below(8) ? family == C_RUN : family != C_RUN;
+    int family = C_WRITE + (int)random_below(C_OVER - C_WRITE), runs = family == C_RUN || family == C_JUDGE, open = random_below(8) ? runs : !runs;
     u8 sheet[56], second[58];
     am9517_chip start = am9517_fresh(AM9517_EDITION_AM9517A), chip[2];
     u64 told[2];
@@ -382,9 +485,10 @@ static int call_differs(void)
     if (random_below(4) == 0) ((u8 *)&start)[random_below(sizeof start)] ^= (u8)(1u << random_below(8));
     sheet[random_below(56)] ^= (u8)(random_below(3) ? 0 : 1u << random_below(8));
     second[random_below(58)] ^= (u8)(random_below(3) ? 0 : 1u << random_below(8));
+    put_random_log(&start);
     struct given g = {random_number(), random_below(9) ? random_below(30) : random_near(4096), (u8)random_below(random_below(2) ? 17 : 256), device, 0, 0, 0, 0,
                       random_below(300), random_below(16) ? 65536 : random_near(65536) & 65535, random_below(300), 56 - random_below(9) / 8,
-                      58 - random_below(9) / 8, random_below(2) ? 65536 : random_below(40), random_eop(&start)};
+                      58 - random_below(9) / 8, random_below(2) ? 65536 : random_below(40), random_eop(&start), logged, log_size};
     for (int side = PROVED; side <= PLAIN; side++) {
         struct outcome *o = &outcomes[side];
         memcpy(o->sheet, sheet, 56), memcpy(o->second, second, 58);
@@ -400,6 +504,7 @@ static int call_differs(void)
 static int check(int n)
 {
     int wrong = 0;
+    fill_memory();
     for (int i = 0; i < n; i++)
         if (i % 2 ? call_differs() : differs()) {
             printf("work %d differs\n", i);

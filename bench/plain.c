@@ -67,3 +67,15 @@ u64 plain_round(u8 *first, usize first_length, const u8 *second, usize second_le
     TURNS(told[i] = round_of(&c, l, k); last = told[i].counts.states)
     return mixed(&told[0]);
 }
+
+/* 0 where the log is accepted, 1 where it is wrong, else its refusal. */
+static u64 found_number(const struct found *f, usize size) { return f->refusal ? f->refusal + 256 : f->right != size; }
+
+u64 plain_judge(u8 *first, usize first_length, const u8 *second, usize second_length, u8 *memory, usize memory_length,
+                const u8 *log, usize log_length, int *error, u64 times)
+{
+    struct found found[2] = {0};
+    TURNS(found[i] = judge(&c, memory, memory_length, log, log_length); last = found_number(&found[i], log_length))
+    *error = found[0].error;
+    return found_number(&found[0], log_length) + found[0].right * 1024;
+}

@@ -1,4 +1,4 @@
-/* A plain model of document 01, with requests A1 to A3 and A5 of document 02, in C: one transfer after the other, each rule where
+/* A plain model of document 01, with requests A1 to A3, A5 and A8 of document 02, in C: one transfer after the other, each rule where
    the document has it. It is the measure that the proved controller is held to; bench/check compares the two. plain.c has the
    works over it, plain_calls.c the calls of the C library by pointer; all take the struct of am9517.h. */
 #include "am9517.h"
@@ -199,17 +199,22 @@ static int counted_down(am9517_chip *c, int copies, u32 n, int eop)
     return 1;
 }
 
-static enum reason copy_service(am9517_chip *c, u8 *memory, u64 limit, u64 eop_at, struct counts *total)
+static void copy_byte(am9517_chip *c, u8 *memory)
 {
     am9517_channel *from = &c->channels[0], *to = &c->channels[1];
+    c->temporary = memory[from->address];
+    memory[to->address] = c->temporary;
+    if (!bit(c->command, 1)) from->address = stepped(from->address, from->mode);
+    if (from->count-- == 0 && bit(from->mode, 4)) from->address = from->base_address, from->count = from->base_count;
+    to->address = stepped(to->address, to->mode);
+}
+
+static enum reason copy_service(am9517_chip *c, u8 *memory, u64 limit, u64 eop_at, struct counts *total)
+{
     u64 made = 0;
     int over = 0;
     while (!over && made != limit) {
-        c->temporary = memory[from->address];
-        memory[to->address] = c->temporary;
-        if (!bit(c->command, 1)) from->address = stepped(from->address, from->mode);
-        if (from->count-- == 0 && bit(from->mode, 4)) from->address = from->base_address, from->count = from->base_count;
-        to->address = stepped(to->address, to->mode);
+        copy_byte(c, memory);
         made++;
         over = counted_down(c, 1, 1, made == eop_at);
     }
@@ -269,10 +274,12 @@ static enum reason serve(am9517_chip *c, struct lent l, u64 limit, u64 eop_at, s
     return device_service(c, l, limit, eop_at, total);
 }
 
+static u32 run_refusal(const am9517_chip *c, usize memory_length) { return !valid(c) ? 1 : memory_length != 65536 ? 7 : !c->in_service ? 8 : 0; }
+
 static struct told run(am9517_chip *c, struct lent l, u64 limit, u64 eop_at)
 {
     struct told t = {0};
-    t.refusal = !valid(c) ? 1 : l.memory_length != 65536 ? 7 : !c->in_service ? 8 : 0;
+    t.refusal = run_refusal(c, l.memory_length);
     if (t.refusal == 0) t.why = serve(c, l, limit, eop_at, &t.counts);
     return t;
 }
@@ -297,6 +304,72 @@ static struct told round_of(am9517_chip *c, struct lent l, u32 k)
     }
     t.why = DONE;
     return t;
+}
+
+/* ---- judging a log ---- */
+
+/* What is found of a log: the number of a refusal or 0, the address error, and how many bytes are right. */
+struct found {
+    u32 refusal;
+    int error;
+    usize right;
+};
+
+/* A record as one number, its first byte lowest, as this machine has it. */
+static u64 record_in(const u8 *b)
+{
+    u64 record;
+    __builtin_memcpy(&record, b, 8);
+    return record;
+}
+
+static u64 record_of(u32 channel, u32 kind, u32 address, u32 second, u32 byte, u32 flags)
+{
+    return channel | kind << 8 | address << 16 | (u64)second << 32 | (u64)byte << 48 | (u64)flags << 56;
+}
+
+/* The registers are kept beside the chip while the records go by: else each byte that is stored might be one of its fields. */
+static struct found judge(am9517_chip *c, u8 *memory, usize memory_length, const u8 *log, usize size)
+{
+    struct found f = {run_refusal(c, memory_length), 0, 0};
+    if (f.refusal != 0) return f;
+    u32 n = c->serving;
+    am9517_channel from = c->channels[n], to = c->channels[1];
+    int copies = bit(c->command, 0) && n == 0, service = from.mode >> 6, single = !copies && service == 1, hold = copies && bit(c->command, 1);
+    if (!copies && (service == 3 || (service == 0 && !active(c, n)))) return f;
+    u32 kind = copies ? 3 : from.mode >> 2 & 3;
+    u16 count = copies ? to.count : from.count, second = copies ? to.address : 0, last = from.address;
+    u8 temporary = c->temporary;
+    u32 flags = 0;
+    for (; flags == 0 && size - f.right >= 8; f.right += 8) {
+        u64 told = record_in(log + f.right);
+        int tc = count == 0, eop = told >> 57 & 1;
+        u32 now = (u32)(tc | eop << 1 | (tc || eop || single) << 2);
+        u8 byte = kind == 0 ? 0 : kind == 1 ? (u8)(told >> 48) : memory[from.address];
+        if (told != record_of(n, kind, from.address, second, byte, now)) {
+            f.error = (short)((told >> 16) - from.address);
+            break;
+        }
+        flags = now;
+        last = from.address;
+        if (kind == 1) memory[last] = byte;
+        if (!hold) from.address = stepped(last, from.mode);
+        if (copies) {
+            memory[second] = temporary = byte;
+            second = stepped(second, to.mode);
+            if (from.count-- == 0 && bit(from.mode, 4)) from.address = from.base_address, from.count = from.base_count;
+        }
+        count--;
+    }
+    if (f.right == 0) return f;
+    if (copies) c->temporary = temporary, to.address = second, to.count = count;
+    else from.count = count, c->latch_full = 1, c->latch = (u8)(last >> 8);
+    c->channels[n] = from;
+    if (copies) c->channels[1] = to;
+    if (flags & 1 || (flags & 2 && intel(c))) c->tc |= (u8)(1u << (copies ? 1 : n));
+    if (flags & 3) finish(c, copies, copies ? 1 : n);
+    else if (flags) end_service(c);
+    return f;
 }
 
 /* ---- sheets ---- */

@@ -90,6 +90,12 @@ am9517_round_told CALL(round)(am9517_chip *chip, u8 *memory, usize memory_size, 
     return (am9517_round_told){t.refusal, reason_number(&t), {s[0], s[1], s[2], s[3]}, n->transfers, n->used, n->written, n->states};
 }
 
+am9517_judge_told CALL(judge)(am9517_chip *chip, u8 *memory, usize memory_size, const u8 *log, usize log_size)
+{
+    struct found f = judge(chip, memory, memory_size, log, log_size);
+    return (am9517_judge_told){f.refusal, f.error, f.right};
+}
+
 u32 CALL(save)(const am9517_chip *chip, u8 *sheet, usize size)
 {
     if (!valid(chip)) return 1;

@@ -112,7 +112,7 @@ def time(works, repeats):
 def per_unit(works, costs, i, side):
     """The cost of one unit of work i."""
     work, cost = works[i], costs[i, side]
-    if work.unit == "byte":
+    if work.unit in ("byte", "record"):
         return cost / work.length
     if work.unit == "service":
         return cost / work.k

@@ -3,6 +3,9 @@
 // no turn's work can be left out, or be done once for all turns.
 use crate::told::all_of;
 use crate::told::answer_number;
+use crate::told::found_number;
+use crate::told::found_of;
+use crate::told::nothing_found;
 use crate::told::nothing_told;
 use crate::told::round_told;
 use crate::told::run_told;
@@ -11,6 +14,7 @@ use am9517::Edition;
 use am9517_service::round;
 use am9517_service::run;
 use am9517_sheet::Form;
+use logs::judge;
 
 mod told;
 
@@ -161,4 +165,39 @@ pub extern "C" fn meter_round(
     }
     am9517_sheet::write(Form::One, after[0], first);
     all_of(tolds[0])
+}
+
+// The address error is left behind the reference: a signed number has no place in the answer.
+#[no_mangle]
+pub extern "C" fn meter_judge(
+    first: &mut [u8],
+    second: &[u8],
+    memory: &mut [u8],
+    log: &[u8],
+    error: &mut i32,
+    times: u64,
+) -> u64 {
+    let one = state_in(first);
+    let two = state_in(second);
+    let starts = [one, two];
+    let mut after = [one, two];
+    let nothing = nothing_found();
+    let mut founds = [nothing, nothing];
+    let mut last: u64 = 0;
+    let mut left = times;
+    while 0 < left {
+        let i = (last % 2) as usize;
+        let j = judge(starts[i], memory, log);
+        let next = j.controller;
+        after[i] = next;
+        let found = found_of(j, log.len());
+        founds[i] = found;
+        last = found.number;
+        left -= 1;
+    }
+    am9517_sheet::write(Form::One, after[0], first);
+    let found = founds[0];
+    let e = found.error;
+    *error = e;
+    found_number(found)
 }

@@ -5,6 +5,8 @@ use am9517_service::Reason;
 use am9517_service::RoundAnswer;
 use am9517_service::Rounded;
 use am9517_service::RunAnswer;
+use logs::Judged;
+use logs::Verdict;
 ghost use Prim.Native.Nat.{_≤_};
 
 // What a run or a round told, its state aside.
@@ -96,6 +98,47 @@ pub(crate) fn round_told(r: Rounded) -> Told {
         written: r.totals.written,
         states: r.totals.states,
     }
+}
+
+// What was found of a log: every record is right (0), or not (1), or a refusal; how many bytes are; the address error.
+pub struct Found {
+    pub number: u64,
+    pub right: usize,
+    pub error: i32,
+}
+
+pub(crate) fn nothing_found() -> Found {
+    Found {
+        number: 0,
+        right: 0,
+        error: 0,
+    }
+}
+
+pub(crate) fn found_of(j: Judged, size: usize) -> Found {
+    let verdict = j.verdict;
+    match verdict {
+        Verdict::Accepted => Found {
+            number: 0,
+            right: size,
+            error: 0,
+        },
+        Verdict::Wrong { at, error } => Found {
+            number: 1,
+            right: at,
+            error,
+        },
+        Verdict::Refused(number) => Found {
+            number: number as u64 + 256,
+            right: 0,
+            error: 0,
+        },
+    }
+}
+
+// Number and bytes in one.
+pub(crate) fn found_number(f: Found) -> u64 {
+    f.number % 4294967296 + f.right as u64 % 4294967296 * 1024
 }
 
 // All of it in one number.
