@@ -37,7 +37,7 @@ fn sets_tc_bit(edition: u8, tc: bool, eop: bool) -> bool
 }
 
 // The bits of channel n, which is in this mode, where it met TC or EOP.
-fn bits_after(edition: u8, n: usize, mode: u8, b: Bits, tc: bool, eop: bool) -> Bits
+pub fn bits_after(edition: u8, n: usize, mode: u8, b: Bits, tc: bool, eop: bool) -> Bits
     ensures { λ r. ⌜ r ≡ bitsAfter edition n mode b tc eop ⌝ }
 {
     Bits {
@@ -48,7 +48,7 @@ fn bits_after(edition: u8, n: usize, mode: u8, b: Bits, tc: bool, eop: bool) -> 
 }
 
 // The record of a channel that met TC or EOP.
-fn channel_after(ch: Channel) -> Channel
+pub fn channel_after(ch: Channel) -> Channel
     ensures { λ r. ⌜ r ≡ channelAfter ch ⌝ }
 {
     let again = autoinitialize(ch.mode);

@@ -9,6 +9,9 @@ mod runs;
 mod spans;
 mod transfers;
 
+pub use legs::Bits;
+pub use legs::bits_after;
+pub use legs::channel_after;
 pub use rounds::round;
 pub use runs::run;
 pub use runs::run_refusal;

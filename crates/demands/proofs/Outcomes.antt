@@ -69,6 +69,8 @@ one-outcome =
       entitledOf = record { free = λ κs a. tt; single = λ κs a x y l l' p q. (same p q, refl) };
       pickedFrom = record { free = λ κs a. tt; single = λ κs a x y l l' p q. (same p q, refl) };
       ended = record { free = λ κs a. tt; single = λ κs a x y l l' p q. (same p q, refl) };
+      bitsAfter = record { free = λ κs a. tt; single = λ κs a x y l l' p q. (same p q, refl) };
+      channelAfter = record { free = λ κs a. tt; single = λ κs a x y l l' p q. (same p q, refl) };
       runRefusal = record { free = λ κs a. tt; single = λ κs a x y l l' p q. (same p q, refl) };
       run = record { free = λ κs a. tt; single = λ κs a x y l l' p q. (ap (λ (g : Given). g .ran) (same (p .0) (q .0)), ap (λ (g : Given). (tt, (g .memory, (tt, (g .room, (tt, (tt, tt))))))) (same (p .0) (q .0))) };
       round = record { free = λ κs a. tt; single = λ κs a x y l l' p q. (ap (λ (g : RoundGiven). g .rounded) (same (p .0) (q .0)), ap (λ (g : RoundGiven). (tt, (g .memory, (tt, (g .room, (tt, tt)))))) (same (p .0) (q .0))) };

@@ -6,26 +6,21 @@ use mathlib.Core.List.{List, [], _∷_}
 use native.Mathlib.Omega.{arith}
 use lib.Dec.{eqb}
 use lib.IntN.{ℤ, pos}
-use lib.ListN.{length, getD, take, drop, length-set, length-drop}
+use lib.ListN.{length, getD, drop, length-set, length-drop}
 use lib.Seq.{getD-drop, drop-drop}
 use native.Mathlib.Nat.{zero-add}
 use borrow.Author.Tests.{eq-eqb, eqb-true, le-leb}
 use Rattle.words.specs.Choice.{when, _and_}
 use Rattle.words.specs.Bits.{bit}
-use Rattle.words.specs.Grounds.{first}
-use Rattle.am9517.specs.Refusals.{refusal, busy}
+use Rattle.am9517.specs.Refusals.{busy}
 use Rattle.am9517.specs.Ranges.{valid}
 use Rattle.am9517.specs.declared.Controller.{Controller}
 use Rattle.am9517_service.specs.declared.Reason.the-variants.{Limit}
 use Rattle.am9517_service.specs.World.{Stop, stop, startOf, memoryToMemory}
 use Rattle.am9517_service.specs.Ends.{reachesTc, single}
-use Rattle.am9517_service.specs.Run.{runOf}
-use Rattle.am9517_service.specs.declared.Ran.{Ran}
-use Rattle.am9517_service.specs.Answers.{Given, given, stopped, runGrounds, ranOf}
 use Rattle.words.proofs.ChoiceLaws.{when-both, when-hit, when-miss, both, both-hold, never, not-false}
 use Rattle.am9517.proofs.RangeLaws.{and-left, and-right, fields, ranges, of-ranges, Ranges}
 use Rattle.am9517_service.proofs.RunWayLaws.{neither-left, neither-right}
-use Rattle.am9517_service.proofs.AnswerLaws.{run-accepted}
 use Rattle.am9517_service.proofs.KeepLaws.{run-left}
 use Rattle.logs.specs.declared.Record.{Record}
 use Rattle.logs.specs.declared.registers.Service.{Service}
@@ -70,25 +65,6 @@ unfolding when
 none-set true o e = absurd (omega arith)
 none-set false true e = absurd (omega arith)
 none-set false false e = (refl, refl)
-
--- one byte of a list, as a part of it
-pub one-part : (l : List ℕ) (n : ℕ) → n < length l → take 1 (drop n l) ≡ getD l n 0 ∷ []
-one-part [] n h = absurd (omega arith)
-one-part (x ∷ xs) zero h = refl
-one-part (x ∷ xs) (suc n) h = one-part xs n (omega arith)
-
--- a run that finds one byte and room for one, with limit 1
-pub accepted : (c : Controller) (m : List ℕ) → Flowing c m → refusal (runGrounds c m) ≡ 0
-unfolding refusal first when
-accepted c m F = simp (F .valid, F .memory, F .busy)
-
-pub made-by : (c : Controller) (m : List ℕ) → Flowing c m → (d r : List ℕ) (byte n : ℕ) (eop : Bool) (out : Ran) (m' r' : List ℕ) → d ≡ byte ∷ [] → r ≡ 0 ∷ [] → n ≡ when eop 1 0
-    → given out m' r' ≡ ranOf c m d r 1 n → (out .controller ≡ nextRun c m byte eop .world .controller) × (m' ≡ nextRun c m byte eop .world .memory)
-unfolding nextRun stopped
-made-by c m F d r byte n eop out m' r' ed er en g =
-    let ran : given out m' r' ≡ stopped (nextRun c m byte eop) =
-    g ∙ run-accepted c m d r 1 n (accepted c m F) ∙ ap (λ (k : ℕ). stopped (runOf 1 k d (startOf c m r))) en ∙ ap (λ (k : List ℕ). stopped (runOf 1 (when eop 1 0) k (startOf c m r))) ed ∙ ap (λ (k : List ℕ). stopped (runOf 1 (when eop 1 0) (byte ∷ []) (startOf c m k))) er in
-    (ap (λ (k : Given). k .ran .controller) ran, ap (λ (k : Given). k .memory) ran)
 
 -- Where the rules make no transfer, nothing is right and no error is told.
 pub judged-still : (more : ℕ) (c : Controller) (m log : List ℕ) → ((byte : ℕ) (eop : Bool) → transfers c m byte eop ≡ false) → judged more c m log ≡ found c m 0 (pos 0)
@@ -367,11 +343,6 @@ module _ (c : Controller) (four : length (c .channels) ≡ 4) (m log : List ℕ)
         along (s .world .controller) (s .world .memory) 8 (at + 8) (pos 0)
         (last-here c m l (R .flowing) long' (R .ends) (tested ∙ on) ∙ ap (λ (k : Stop). found (k .world .controller) (k .world .memory) 8 (pos 0)) next) refl
 
-    pub left-made : t ≡ true → (x : Controller) (m' : List ℕ) → x ≡ nextRun c m (getD log (at + 6) 0) eop .world .controller
-        → m' ≡ nextRun c m (getD log (at + 6) 0) eop .world .memory → found x m' (at + 8) (pos 0) ≡ left
+    pub left-made : t ≡ true → (x : Controller) (m' : List ℕ) → x ≡ nextRun c m (r .byte) eop .world .controller → m' ≡ nextRun c m (r .byte) eop .world .memory → found x m' (at + 8) (pos 0) ≡ left
     left-made on x m' ex em =
-        let byte : getD log (at + 6) 0 ≡ r .byte = sym (ap (λ (k : Record). k .byte) is ∙ getD-drop at log 6 0) in
-        let next : nextRun c m (getD log (at + 6) 0) eop ≡ nextRun c m (r .byte) eop = ap (λ (b : ℕ). nextRun c m b eop) byte in
-        ap (λ (y : Controller). found y m' (at + 8) (pos 0)) (ex ∙ ap (λ (k : Stop). k .world .controller) next)
-        ∙ ap (λ (k : List ℕ). found (nextRun c m (r .byte) eop .world .controller) k (at + 8) (pos 0)) (em ∙ ap (λ (k : Stop). k .world .memory) next)
-        ∙ left-last on
+        ap (λ (y : Controller). found y m' (at + 8) (pos 0)) ex ∙ ap (λ (k : List ℕ). found (nextRun c m (r .byte) eop .world .controller) k (at + 8) (pos 0)) em ∙ left-last on

@@ -3,6 +3,7 @@ pub mod ErrorLaws
 pub mod RecordLaws
 pub mod NextLaws
 pub mod RegisterLaws
+pub mod LastLaws
 pub mod JudgeLaws
 pub mod AnswerLaws
 pub mod KeepLaws

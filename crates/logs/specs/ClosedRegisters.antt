@@ -11,11 +11,12 @@ use Rattle.words.specs.Steps.{step}
 use Rattle.am9517.specs.Fields.{channel, withChannel, put, Temporary, LatchFull, Latch}
 use Rattle.am9517.specs.Modes.{addressHold, autoinitialize, decrement, isCascade}
 use Rattle.am9517.specs.Ranges.{valid}
+use Rattle.am9517.specs.State.{ended}
 use Rattle.am9517.specs.declared.Controller.{Controller}
 use Rattle.am9517_service.specs.World.{memoryToMemory, servingChannel}
 use Rattle.am9517_service.specs.Stops.{dropped}
 use Rattle.am9517_service.specs.Transfer.{withCurrent}
-use Rattle.am9517_service.specs.Ends.{single}
+use Rattle.am9517_service.specs.Ends.{afterTcOrEop, single}
 use Rattle.logs.specs.declared.Record.{Record}
 use Rattle.logs.specs.declared.registers.Service.{Service}
 use Rattle.logs.specs.declared.registers.Registers.{Registers}
@@ -119,6 +120,10 @@ steppedBy s g byte = when (copies s) (copiedRegisters s g byte) (movedRegisters 
 -- the memory after it
 unfoldable pub storedBy : Service → Registers → List ℕ → ℕ → List ℕ
 storedBy s g m byte = when (stores s) (set m (g .address) byte) (when (copies s) (set m (g .second) byte) m)
+
+-- what a transfer leaves that has made this of the controller, by what it meets: TC or EOP, the end of a single service, or none
+abbrev pub lastBy : Controller → Bool → Bool → Bool → Controller
+lastBy c tc eop once = when (tc || eop) (afterTcOrEop c tc eop) (when once (ended c) c)
 
 -- the rules make a transfer next, whatever the device gives
 unfoldable pub flows : Controller → Bool

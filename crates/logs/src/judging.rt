@@ -1,6 +1,7 @@
 // Judging a log: over the records that don't end the service, then the one that may.
 use crate::Judged;
 use crate::Verdict;
+use crate::ends::make_last;
 use crate::errors::error_of;
 use crate::records::goes_on;
 use crate::records::record_at;
@@ -13,17 +14,15 @@ use crate::registers::stepped_by;
 use crate::registers::store_by;
 use crate::registers::with_registers;
 use am9517::Controller;
-use am9517_service::run;
 use am9517_service::run_refusal;
 use words::bits::is_set;
-use words::choice::when_long;
 ghost use mathlib.Core.Path.{_≡_};
 ghost use mathlib.Core.List.{List};
-ghost use Prim.Native.Nat.{ℕ, _+_, _/_, _≤_, _<_};
-ghost use lib.ListN.{length, getD, drop};
+ghost use Prim.Native.Nat.{ℕ, _+_, _/_, _<_};
+ghost use lib.ListN.{length, drop};
 ghost use Rattle.am9517.specs.Refusals.{refusal};
 ghost use Rattle.am9517_service.specs.Answers.{runGrounds};
-ghost use Rattle.logs.specs.Judge.{nextRun, found, behind, judged};
+ghost use Rattle.logs.specs.Judge.{found, behind, judged};
 ghost use Rattle.logs.specs.Answers.{judgeGiven, told, judgedOf, judgeRefusalNumber, placeOf};
 ghost use Rattle.logs.specs.ClosedRegisters.{Flowing, Rest, Passes};
 
@@ -68,24 +67,6 @@ fn told(c: Controller, at: usize, error: i32, size: usize) -> Judged
     }
 }
 
-// The transfer that the record at a place tells, by the service's own run: its device byte lies in the log.
-fn make_last(c: Controller, memory: &mut [u8], log: &[u8], at: usize, eop: bool) -> Controller
-    requires { ⌜ Flowing c (now memory) × (at + 8 ≤ length (now log)) ⌝ }
-    ensures { λ r. ⌜ r ≡ nextRun c (now (memory .entry)) (getD (now (log .entry)) (at + 6) 0) eop .world .controller ⌝ }
-    ensures memory { λ _. ⌜ now (memory .exit) ≡ nextRun c (now (memory .entry)) (getD (now (log .entry)) (at + 6) 0) eop .world .memory ⌝ }
-{
-    let mut room = [0u8; 1];
-    let ran = run(
-        c,
-        memory,
-        &log[at + 6..at + 7],
-        &mut room[0..1],
-        1,
-        when_long(eop, 1, 0),
-    );
-    ran.controller
-}
-
 // The record at a place, which ends the service of channel i if it is right.
 fn finish(c: Controller, i: usize, memory: &mut [u8], log: &[u8], at: usize) -> Judged
     requires { ⌜ (i ≡ c .serving) × Rest c (now memory) (now log) at ⌝ }
@@ -102,7 +83,7 @@ fn finish(c: Controller, i: usize, memory: &mut [u8], log: &[u8], at: usize) -> 
     if !same(r, record_by(service_of(c, i), g, here, r.byte, eop)) {
         return told(c, at, error_of(r.address, g.address), size);
     }
-    let next = make_last(c, memory, log, at, eop);
+    let next = make_last(c, i, memory, r.byte, eop);
     told(next, at + 8, 0, size)
 }
 

@@ -1,6 +1,7 @@
 // Judging the bus log of a service that another replica made: which of its records are what the rules do next.
 use am9517::Controller;
 
+mod ends;
 mod errors;
 mod judging;
 mod records;

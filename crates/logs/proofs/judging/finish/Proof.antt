@@ -42,8 +42,8 @@ returns-2 c =
 
 make-last-requires : tie.Need-make-last-requires
 make-last-requires c κs =
-    let at-if1 = c .before .before .before .before .before .before .before .before .before .before in let at-pre = at-if1 .before .before .before in
-    (at-pre .pre .1 .flowing, omega (arith, at-if1 .if1 .left))
+    let entry = c .before .before .before .before .before .before .before .before .before .before .before .before .before in
+    let here = fields (entry .args .c) (entry .pre .1 .flowing .valid) .serving in (omega (arith, here, entry .pre .0), entry .pre .0, entry .pre .1 .flowing)
 
 add-told : tie.Need-add-told
 add-told c =
