@@ -3,7 +3,7 @@
 
 Traces and logs random runs and rounds of ./rack. With a trace and a log every answer must be
 what it is without; the records are as many as the transfers, the states on the lines as many
-as the answer's; and the log of each service, cut from the file, must be accepted from the
+as the answer's, each with its S1; and the log of each service, cut from the file, must be accepted from the
 state and the memory at its grant, and leave the state and the memory that the service left.
 
 needs   python3, and what ./rack needs
@@ -78,7 +78,16 @@ def said_by(line):
     return int(service), record, int(states), bool(s1)
 
 
-def cut(answer, lines, log, where):
+def fits(record, states, s1, setting):
+    """whether the states of a line are those of its transfer, with S1 or not"""
+    waits = int(re.search(r'waits (\d+)', setting).group(1))
+    command = int(re.search(r'write 8 (\d+)', setting).group(1))
+    if record[1] == 3:
+        return states == 8 + 2 * waits and not s1
+    return states == (2 if command & 8 else 3) + s1 + waits
+
+
+def cut(answer, lines, log, setting, where):
     """the log of each service that was begun"""
     wanted = int(re.search(r'transfers=(\d+)', answer).group(1)) if 'transfers' in answer else 0
     states = int(re.search(r'states=(\d+)', answer).group(1)) if 'states' in answer else 0
@@ -87,6 +96,8 @@ def cut(answer, lines, log, where):
         sys.exit(f'traced: {where}: {len(told)} lines and {len(log)} bytes of a log for {wanted} transfers')
     if sum(states for _, _, states, _ in told) != states:
         sys.exit(f'traced: {where}: the states of the lines are not {states} in all')
+    if not all(fits(record, states, s1, setting) for _, record, states, s1 in told):
+        sys.exit(f'traced: {where}: the states of a line are not those of its transfer')
     if b''.join(record for _, record, _, _ in told) != log:
         sys.exit(f'traced: {where}: a line and its record differ')
     begun = re.search(r'services=(\d+),(\d+),(\d+),(\d+)', answer)
@@ -127,7 +138,7 @@ def main():
             i += 1 + len(ENDING)
             is_granted = command[0] != 'grant' or mine[len(lines)].startswith('channel')
             with open(os.path.join(folder, f'{n}.log'), 'rb') as file:
-                parts = cut(answer, between, file.read(), f'case {n}')
+                parts = cut(answer, between, file.read(), '\n'.join(lines), f'case {n}')
             if not is_granted:
                 parts = []
             judged += lines

@@ -22,16 +22,25 @@ fn number_of(answer: SheetAnswer) -> u8 {
     }
 }
 
-// The sheet at the end of these bytes, of form 2 or else of form 1.
+// Whether the trailer at the end of these bytes says form 2.
+fn says_two(bytes: &[u8]) -> bool {
+    let n = bytes.len();
+    if n < 8 {
+        return false;
+    }
+    (bytes[n - 8] == 2) & (bytes[n - 7] == 0)
+}
+
+// The sheet at the end of these bytes, of form 2 or else of form 1; one of form 2 that lost bytes is less than a sheet.
 fn state_in(bytes: &[u8]) -> SheetRead {
     let fresh = Controller::fresh(Edition::Am9517A);
     let second = am9517_sheet::read(Form::Two, fresh, bytes);
     let answer = second.answer;
     let n = number_of(answer);
-    if (n == 11) | (n == 9) {
-        return am9517_sheet::read(Form::One, fresh, bytes);
+    if says_two(bytes) | ((n != 11) & (n != 9)) {
+        return second;
     }
-    second
+    am9517_sheet::read(Form::One, fresh, bytes)
 }
 
 fn judge_state(c: Controller, image: &[u8], log: &[u8]) -> u8 {

@@ -7,6 +7,7 @@ mod tracing;
 mod turns;
 
 pub use answers::Answers;
+pub use own::leave_log;
 pub use telling::closed;
 pub use tracing::Trace;
 pub use turns::Turn;

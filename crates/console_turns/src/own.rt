@@ -1,5 +1,6 @@
 // Lines that are not the console's: to leave at, about traces, or with a file that failed.
 use crate::tracing::Trace;
+use crate::turns::Turn;
 use console_files::Task;
 use console_files::close_log;
 use console_files::open_log;
@@ -52,6 +53,12 @@ fn without_log(number: u64, trace: Trace) -> Own {
     next.fd = -1;
     next.is_broken = false;
     left_as_it_is(next, is_well, false)
+}
+
+// At the end: whether a log that is still open could be closed.
+pub fn leave_log(now: Turn) -> bool {
+    let trace = now.trace;
+    close_log(now.number, trace.fd, false)
 }
 
 // They go to this file, which is empty then, and the one before it is closed; where it can't be opened, they go where they went.

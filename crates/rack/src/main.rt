@@ -2,10 +2,12 @@
 mod options;
 
 use console_judge::judge_files;
+use console_turns::Turn;
 use console_turns::Way;
 use console_turns::closed;
 use console_turns::complain;
 use console_turns::first_turn;
+use console_turns::leave_log;
 use console_turns::step;
 use libc::STDIN_FILENO;
 use libc::STDOUT_FILENO;
@@ -20,6 +22,19 @@ use options::say_version;
 
 // Where the script that starts the program waits for its status: a program of this language has none of its own.
 const REPORT: i32 = 3;
+
+// The script has ended: whether all went well.
+fn ended(way: Way, expected: &[u8], now: Turn, wanted: &mut [u8; 65536]) -> bool {
+    // behind the last prompt
+    if way.is_asking & now.is_ending {
+        io::write_all(STDOUT_FILENO, b"\n");
+    }
+    let is_well = leave_log(now) & !now.is_failed;
+    if !(is_well & way.is_comparing) {
+        return is_well;
+    }
+    closed(now, expected, wanted)
+}
 
 // Runs the script to its end, and tells whether all went well. A proved loop has to end, and nothing says that a file does:
 // the turns count down, from a number that no run uses up.
@@ -56,14 +71,7 @@ fn run(way: Way, name: &[u8], expected: &[u8], answers: i32) -> bool {
             &mut wanted,
         );
     }
-    // behind the last prompt
-    if way.is_asking & now.is_ending {
-        io::write_all(STDOUT_FILENO, b"\n");
-    }
-    if now.is_failed | !way.is_comparing {
-        return !now.is_failed;
-    }
-    closed(now, expected, &mut wanted)
+    ended(way, expected, now, &mut wanted)
 }
 
 fn is_terminal() -> bool {
