@@ -1,0 +1,4 @@
+pub mod ChipLaws
+pub mod OutcomeLaws
+pub mod RunLaws
+pub mod SheetLaws
