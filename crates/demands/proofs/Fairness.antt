@@ -52,10 +52,10 @@ stopped-lowest x = refl
 
 -- Nothing but a grant, a reset and a master clear moves the lowest.
 module _ (s : Controller) where
-  abbrev Kept : Controller → Type 0
+  abbrev pub Kept : Controller → Type 0
   Kept t = t .lowest ≡ s .lowest
 
-  afterWrite-kept : (r b : ℕ) → ¬ (r ≡ 13) → Kept (afterWrite s r b)
+  pub afterWrite-kept : (r b : ℕ) → ¬ (r ≡ 13) → Kept (afterWrite s r b)
   unfolding afterWrite portWritten modeWritten first
   afterWrite-kept r b n =
       when-both Kept _ refl
@@ -66,7 +66,7 @@ module _ (s : Controller) where
       (when-both Kept _ refl
       (rw (when-miss (eqb r 13) _ _ (ne-eqb r 13 n)) (when-both Kept _ refl (when-both Kept _ refl refl))))))))
 
-  after-read-kept : (r : ℕ) → Kept (afterRead s r)
+  pub after-read-kept : (r : ℕ) → Kept (afterRead s r)
   unfolding afterRead first
   after-read-kept r = when-both Kept _ refl (when-both Kept _ refl refl)
 
@@ -76,7 +76,7 @@ module _ (s : Controller) where
   outcome-kept n t a h = when-each Kept (eqb n 0) (λ e. h (eqb-true _ _ e)) (λ e. refl)
 
   -- a run, whatever it is lent and however it stops
-  run-kept : (m d r : List ℕ) (limit eop : ℕ) → Kept (ranOf s m d r limit eop .ran .controller)
+  pub run-kept : (m d r : List ℕ) (limit eop : ℕ) → Kept (ranOf s m d r limit eop .ran .controller)
   run-kept m d r limit eop = go (eqb (refusal (runGrounds s m)) 0) refl
     where
       go : (t : Bool) → eqb (refusal (runGrounds s m)) 0 ≡ t → Kept (ranOf s m d r limit eop .ran .controller)
@@ -160,16 +160,16 @@ module _ (low : ℕ) (E : ℕ → Bool) where
 place-at : (low c : ℕ) → c < 4 → (low + 1 + place low c) % 4 ≡ c
 place-at low c h = omega arith
 
-picked-early : (s : Controller) (c : ℕ) → c < 4 → rotating (s .command) ≡ true → entitled s c ≡ true → Early (s .lowest) (place (s .lowest) c) (picked s)
+pub picked-early : (s : Controller) (c : ℕ) → c < 4 → rotating (s .command) ≡ true → entitled s c ≡ true → Early (s .lowest) (place (s .lowest) c) (picked s)
 picked-early s c h rot e =
     rw (picked-asked s, when-hit (rotating (s .command)) (s .lowest) 3 rot)
     (first-early (s .lowest) (entitled s) (place (s .lowest) c) (omega arith) (rw (place-at (s .lowest) c h) e))
 
-grant-valid : (s : Controller) → refusal (grantGrounds s) ≡ 0 → valid s ≡ true
+pub grant-valid : (s : Controller) → refusal (grantGrounds s) ≡ 0 → valid s ≡ true
 unfolding refusal first
 grant-valid s e = not-false _ (passed _ _ _ (omega arith) e .test)
 
-lowest-granted : (s : Controller) (n : ℕ) → rotating (s .command) ≡ true → granted s n .lowest ≡ n
+pub lowest-granted : (s : Controller) (n : ℕ) → rotating (s .command) ≡ true → granted s n .lowest ≡ n
 unfolding granted
 lowest-granted s n rot = when-hit (rotating (s .command)) _ _ rot
 
