@@ -19,3 +19,4 @@ pub mod RoundLaws
 pub mod RoundTurnLaws
 pub mod AloneLaws
 pub mod RoundLoopLaws
+pub mod TurnLaws
