@@ -17,4 +17,6 @@ pub mod KeepLaws
 pub mod GrantLaws
 pub mod RoundLaws
 pub mod RoundTurnLaws
+pub mod AloneLaws
 pub mod RoundLoopLaws
+pub mod TurnLaws

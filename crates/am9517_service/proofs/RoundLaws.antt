@@ -84,13 +84,24 @@ tally-start c m d r h = record { room = refl; used = omega arith; written = omeg
     none (suc (suc (suc zero))) = omega arith
     none (suc (suc (suc (suc j)))) = omega arith
 
+-- what the next service counts, and what it leaves
+pub next-counted : (w : Course) (d : List ℕ) → Counted (length (w .memory)) (length (drop (w .totals .written) (w .room))) (length (drop (w .totals .used) d)) 65536 (w .controller .waits) (runNext w d .world)
+unfolding runNext
+next-counted w d =
+    let n = picked (w .controller) in
+    run-counted (length (w .memory)) (length (drop (w .totals .written) (w .room))) (w .controller .waits) (drop (w .totals .used) d) 65536 0 (startOf (granted (w .controller) n) (w .memory) (drop (w .totals .written) (w .room)))
+    (record { memory-length = refl; room-length = refl; used = omega arith; written = omega arith; transfers = omega arith; slow = granted-waits (w .controller) n; states = λ h. omega arith })
+
+pub next-left : (w : Course) (d : List ℕ) → valid (w .controller) ≡ true → nobody (w .controller) ≡ false → Left (granted (w .controller) (picked (w .controller)) .lowest) (runNext w d)
+unfolding runNext
+next-left w d v some =
+    let n = picked (w .controller) in
+    run-left 65536 0 (drop (w .totals .used) d) (startOf (granted (w .controller) n) (w .memory) (drop (w .totals .written) (w .room)))
+    (granted-kept (w .controller) (ranges (w .controller) v) n (picked-below (w .controller) some)) (granted-open (w .controller) n)
+
 module _ (d : List ℕ) (size begun : ℕ) (w : Course) (t : Tally d size begun w) where
-  counted : Counted (length (w .memory)) (length (drop (w .totals .written) (w .room))) (length (drop (w .totals .used) d)) 65536 (w .controller .waits) (runNext w d .world)
-  unfolding runNext
-  counted =
-      let n = picked (w .controller) in
-      run-counted (length (w .memory)) (length (drop (w .totals .written) (w .room))) (w .controller .waits) (drop (w .totals .used) d) 65536 0 (startOf (granted (w .controller) n) (w .memory) (drop (w .totals .written) (w .room)))
-      (record { memory-length = refl; room-length = refl; used = omega arith; written = omega arith; transfers = omega arith; slow = granted-waits (w .controller) n; states = λ h. omega arith })
+  abbrev counted : Counted (length (w .memory)) (length (drop (w .totals .written) (w .room))) (length (drop (w .totals .used) d)) 65536 (w .controller .waits) (runNext w d .world)
+  counted = next-counted w d
 
   -- one service more
   pub tally-on : Tally d size (begun + 1) (afterNext w d)
@@ -137,9 +148,6 @@ module _ (d : List ℕ) (size : ℕ) (o : Close) (left begun : ℕ) (w : Course)
       abbrev n : ℕ
       n = picked (w .controller)
 
-      abbrev c : Controller
-      c = granted (w .controller) n
-
       -- how it goes on behind the run
       on : when (not (isEnded (s .reason))) (close (withRun w n s) (Stopped (s .reason))) (roundOf (left - 1) d (withRun w n s)) ≡ o
       unfolding roundOf first
@@ -150,11 +158,8 @@ module _ (d : List ℕ) (size : ℕ) (o : Close) (left begun : ℕ) (w : Course)
       pub rolling-stops : isEnded (s .reason) ≡ false → close (withRun w n s) (Stopped (s .reason)) ≡ o
       rolling-stops h = sym (when-hit _ _ _ (ap not h)) ∙ on
 
-      leaves : Left (c .lowest) s
-      unfolding runNext
-      leaves =
-          rw is at (run-left 65536 0 (drop (w .totals .used) d) (startOf c (w .memory) (drop (w .totals .written) (w .room)))
-          (granted-kept (w .controller) (ranges (w .controller) (g .range)) n (picked-below (w .controller) some)) (granted-open (w .controller) n))
+      leaves : Left (granted (w .controller) n .lowest) s
+      leaves = rw is at (next-left w d (g .range) some)
 
       pub rolling-on : isEnded (s .reason) ≡ true → Rolling d size o (left - 1) (begun + 1) (withRun w n s)
       unfolding withRun

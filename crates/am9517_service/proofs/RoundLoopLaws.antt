@@ -7,12 +7,12 @@ use native.Mathlib.Omega.{arith}
 use native.Mathlib.Nat.{add-assoc}
 use lib.Dec.{eqb, ltb}
 use lib.ListN.{length, getD, set, take, drop, take-append-drop}
-use borrow.Author.Tests.{eqb-true, eqb-false, eq-eqb, ne-eqb, not-true, ltb-true, ltb-false}
+use borrow.Author.Tests.{eqb-true, eqb-false, eq-eqb, ne-eqb, ltb-true, ltb-false}
 use Rattle.words.specs.Choice.{when}
 use Rattle.words.specs.Bits.{bit}
 use Rattle.words.specs.Steps.{steps}
 use Rattle.words.specs.Spans.{spread}
-use Rattle.am9517.specs.Fields.{channel, withChannel, put, LatchFull, Latch, Temporary, Lowest}
+use Rattle.am9517.specs.Fields.{channel, blank, withChannel, put, LatchFull, Latch, Temporary, Lowest}
 use Rattle.am9517.specs.Modes.{memoryToMemoryBit, addressHold, rotating, decrement, isWrite, isRead, isSingle}
 use Rattle.am9517.specs.Ranges.{valid}
 use Rattle.am9517.specs.Refusals.{refusal}
@@ -42,7 +42,7 @@ use Rattle.am9517_service.specs.Bounds.{mostWaits, mostPace, mostTransfe
 use Rattle.am9517_service.specs.Round.{Course, course, Close, close, beginning, runNext, withRun, nobody, isEnded, roundOf}
 use Rattle.am9517_service.specs.RoundAnswers.{roundGiven, closed, roundGrounds, roundedOf}
 use Rattle.am9517_service.specs.ClosedLegs.{addressAfter, currentAfter, statesOf, countsOf, stored, loaded, legOf}
-use Rattle.am9517_service.specs.ClosedSpans.{spanOf, stockOf, staysOpen}
+use Rattle.am9517_service.specs.ClosedSpans.{spanOf, staysOpen}
 use Rattle.am9517_service.specs.ClosedCopies.{carriedBy, routeOf, copyLegOf, lastByte}
 use Rattle.am9517_service.specs.Needs.{Stocked}
 use Rattle.am9517_service.specs.ClosedRounds.{factsOf, nextsOf, madeAlone, turnOf, withAlone, settledOf, answerOf}
@@ -55,6 +55,7 @@ use Rattle.am9517_service.proofs.TransferLaws.{next-mul, states-most, p
 use Rattle.am9517_service.proofs.RoundLaws.{ended-is, tail-length, round-refused, round-accepted, Rolling, rolling-start, rolling-done, rolling-quiet, rolling-on, rolling-stops}
 use Rattle.am9517_service.proofs.RoundTurnLaws.{resting, AtRest, at-rest, settles, next-is, counts-same, alone-plus, led-stocked, led-few, turn-stood, still-open, stays-open, leg-ended, leg-halted, turn-alone, turn-copied}
 use Rattle.am9517_service.proofs.CopySourceLaws.{source-mode}
+use Rattle.am9517_service.proofs.AloneLaws.{still-all, Made, made-all}
 
 abbrev pub rounded : Controller → RoundAnswer → List ℕ → Counts → Rounded
 rounded c a services n = record { controller = c; answer = a; services = services; totals = n }
@@ -71,7 +72,7 @@ pub record Looping (k : ℕ) (d : List ℕ) (size : ℕ) (o : Close) (f : Facts)
   pub bytes : length d < 2 ^ 64
   pub space : size < 2 ^ 64
 
-resting-own : (c : Controller) → resting c (c .lowest) ≡ c
+pub resting-own : (c : Controller) → resting c (c .lowest) ≡ c
 resting-own c = ap (λ (x : ℕ). put c Lowest x) (when-same (rotating (c .command)) (c .lowest))
 
 pub looping-start : (k : ℕ) (c : Controller) (m d r : List ℕ) (f : Facts) (nexts : List ℕ) → valid c ≡ true → c .«in_service» ≡ 0 → c .waits ≤ mostWaits → length m ≡ 65536 → k ≤ 4096 → f ≡ factsOf c → nexts ≡ nextsOf f (c .mask) (c .request)
@@ -106,7 +107,7 @@ abbrev facts : ℕ → ℕ → ℕ → ℕ → Facts
 facts command waits lines blocks =
     record { rotating = rotating command; copier = when (memoryToMemoryBit command) 0 4; hold = addressHold command; pace = pace command waits; lines = lines; blocks = blocks; waits = waits }
 
-facts-same : (s x : Controller) → x .command ≡ s .command → x .waits ≡ s .waits → x .pins ≡ s .pins → ((i : ℕ) → channel x i .mode ≡ channel s i .mode) → factsOf s ≡ factsOf x
+pub facts-same : (s x : Controller) → x .command ≡ s .command → x .waits ≡ s .waits → x .pins ≡ s .pins → ((i : ℕ) → channel x i .mode ≡ channel s i .mode) → factsOf s ≡ factsOf x
 facts-same s x ec ew ep em =
     ap (λ (k : ℕ). facts k (s .waits) (linesOf s) (blocksOf s)) (sym ec) ∙ ap (λ (k : ℕ). facts (x .command) k (linesOf s) (blocksOf s)) (sym ew) ∙ ap (λ (k : ℕ). facts (x .command) (x .waits) k (blocksOf s)) (sym (lines-same s x ec ep)) ∙ ap (facts (x .command) (x .waits) (linesOf x)) (sym (blocks-same s x ec em))
 
@@ -208,7 +209,7 @@ ends-by left x e more = go (ltb 0 left) (eqb x 4) refl refl e
     go true false ea eb h = never h
     go false b ea eb h = absurd (more (omega (arith, ltb-false 0 left ea)))
 
-pace-low : (f : Facts) (s : Controller) → f ≡ factsOf s → s .waits ≤ mostWaits → f .pace ≤ mostPace
+pub pace-low : (f : Facts) (s : Controller) → f ≡ factsOf s → s .waits ≤ mostWaits → f .pace ≤ mostPace
 pace-low f s e h = rw e (pace-most (s .command) (s .waits) h)
 
 module _ (k : ℕ) (d : List ℕ) (size : ℕ) (o : Close) (f : Facts) (s : Controller) (services : List ℕ) (n : Counts) (nexts : List ℕ) (longs i left : ℕ) (m r : List ℕ) (g : Looping k d size o f s services n nexts longs i left m r) where
@@ -260,25 +261,28 @@ module _ (k : ℕ) (d : List ℕ) (size : ℕ) (o : Close) (f : Facts) (s : Cont
     pub longs-fewer : longs + 1 ≤ k - (left - 1)
     longs-fewer = omega (arith, g .long, g .fewer, left-some)
 
-both-left : (a b : Bool) → a && b ≡ true → a ≡ true
-both-left true b e = refl
-both-left false b e = e
-
-both-right : (a b : Bool) → a && b ≡ true → b ≡ true
-both-right true b e = e
-both-right false b e = never (sym e)
-
-some-left : (x : ℕ) → not (eqb x 0) ≡ true → 0 < x
-some-left x h = let nz = eqb-false x 0 (not-true _ h) in omega arith
-
 -- a channel that is not the copier's serves a device; the copier is channel 0
-serves-device : (s : Controller) (i j : ℕ) (f : Facts) → f ≡ factsOf s → (j ≡ f .copier → ⊥) → memoryToMemory (granted (resting s i) j) ≡ false
+pub serves-device : (s : Controller) (i j : ℕ) (f : Facts) → f ≡ factsOf s → (j ≡ f .copier → ⊥) → memoryToMemory (granted (resting s i) j) ≡ false
 unfolding memoryToMemory granted
 serves-device s i j f e h = go (memoryToMemoryBit (s .command)) refl
   where
     go : (t : Bool) → memoryToMemoryBit (s .command) ≡ t → (t && eqb j 0) ≡ false
     go true h' = ne-eqb _ _ (λ (z : j ≡ 0). h (z ∙ sym (ap (λ (x : Facts). x .copier) e ∙ when-hit _ _ _ h')))
     go false h' = refl
+
+-- a leg leaves its channel's mode, and one of memory-to-memory every mode
+pub leg-mode : (edition i : ℕ) (ch : Channel) (b : Bits) (first : Bool) (p n eop : ℕ) → legOf edition i ch b first p n eop .channel .mode ≡ ch .mode
+unfolding legOf currentAfter
+leg-mode edition i ch b first p n eop = when-both (λ (x : Channel). x .mode ≡ ch .mode) (eqb n (ch .count + 1) || eqb n eop) refl refl
+
+pub copy-modes : (s : Controller) (q : ℕ) (source target : Channel) (b : Bits) (hold : Bool) (n : ℕ) → source .mode ≡ channel s q .mode → target .mode ≡ channel s 1 .mode
+    → (y : ℕ) → getD (set (set (s .channels) q (copyLegOf (s .edition) source target b hold n 0 .source)) 1 (copyLegOf (s .edition) source target b hold n 0 .target)) y blank .mode ≡ channel s y .mode
+unfolding copyLegOf
+copy-modes s q source target b hold n es et y =
+    let u = copyLegOf (s .edition) source target b hold n 0 in
+    let from : u .source .mode ≡ channel s q .mode = source-mode _ source _ ∙ es in
+    let to : u .target .mode ≡ channel s 1 .mode = leg-mode _ _ target _ _ _ _ _ ∙ et in
+    modes-kept (set (s .channels) q (u .source)) 1 y (u .target) (to ∙ sym (modes-kept (s .channels) q 1 (u .source) from)) ∙ modes-kept (s .channels) q y (u .source) from
 
 pub copies-0 : (s : Controller) (i j : ℕ) (f : Facts) → f ≡ factsOf s → j < 4 → j ≡ f .copier → (memoryToMemory (granted (resting s i) j) ≡ true) × (j ≡ 0)
 unfolding memoryToMemory granted
@@ -288,36 +292,9 @@ copies-0 s i j f e h is = go (memoryToMemoryBit (s .command)) refl
     go true h' = let z : j ≡ 0 = is ∙ ap (λ (x : Facts). x .copier) e ∙ when-hit _ _ _ h' in (eq-eqb _ _ z, z)
     go false h' = let z : j ≡ 4 = is ∙ ap (λ (x : Facts). x .copier) e ∙ when-miss _ _ _ h' in absurd (omega arith)
 
--- a byte or a place that a lone transfer found
-found-by : (w r : Bool) (bytes space : ℕ) → when w (not (eqb bytes 0)) (when r (not (eqb space 0)) true) ≡ true → 0 < when w bytes (when r space 65536)
-unfolding when
-found-by true r bytes space h = some-left bytes h
-found-by false true bytes space h = some-left space h
-found-by false false bytes space h = omega arith
-
-found-some : (ch : Channel) (may : Bool) (bytes space : ℕ) → madeAlone may (ch .mode) bytes space ≡ true → 0 < stockOf ch bytes space
-unfolding madeAlone stockOf
-found-some ch may bytes space e =
-    found-by (isWrite (ch .mode)) (isRead (ch .mode)) bytes space (both-right may (when (isWrite (ch .mode)) (not (eqb bytes 0)) (when (isRead (ch .mode)) (not (eqb space 0)) true)) e)
-
-may-be : (may : Bool) (mode bytes space : ℕ) → madeAlone may mode bytes space ≡ true → may ≡ true
-unfolding madeAlone
-may-be may mode bytes space e = both-left may (when (isWrite mode) (not (eqb bytes 0)) (when (isRead mode) (not (eqb space 0)) true)) e
-
 -- nothing counted more
-plus-none : (n : Counts) → plus n none ≡ n
+pub plus-none : (n : Counts) → plus n none ≡ n
 plus-none n = counts-same _ _ _ _ _ _ _ _ (omega arith) (omega arith) (omega arith) (omega arith)
-
--- nothing more
-none-more : (x : ℕ) → x + when false 1 0 ≡ x
-unfolding when
-none-more x = omega arith
-
--- what a tail that came back leaves of the whole
-tail-when : (b : Bool) (a : ℕ) (r x : List ℕ) → take a r ++ when b x (drop a r) ≡ when b (take a r ++ x) r
-unfolding when
-tail-when true a r x = refl
-tail-when false a r x = take-append-drop a r
 
 module _ (k : ℕ) (d : List ℕ) (size : ℕ) (o : Close) (f : Facts) (s : Controller) (services : List ℕ) (n : Counts) (nexts : List ℕ) (longs i left : ℕ) (m r : List ℕ) (g : Looping k d size o f s services n nexts longs i left m r)
     (test : (ltb 0 left && not (eqb (getD nexts i 0) 4)) ≡ true) where
@@ -354,52 +331,17 @@ module _ (k : ℕ) (d : List ℕ) (size : ℕ) (o : Close) (f : Facts) (s : Cont
       (eu : l .used ≡ n .used + when (l .made && isWrite (ch .mode)) 1 0) (ew : l .written ≡ n .written + when (l .made && isRead (ch .mode)) 1 0)
       (em : m' ≡ when (l .made && isWrite (ch .mode)) (spread (steps 16 (decrement (ch .mode)) address) (λ (x : ℕ). x) (drop (n .used) d) m 1) m)
       (er : r' ≡ when (l .made && isRead (ch .mode)) (take (n .written) r ++ spread (λ (x : ℕ). x) (steps 16 (decrement (ch .mode)) address) m (drop (n .written) r) 1) r) where
-    abbrev may : Bool
-    may = single && (not (eqb count 0) && not (eqb q (f .copier)))
-
     -- none was made: all is as it was
     pub looping-still : l .made ≡ false → Looping k d size o f s services (counts (n .transfers) (l .used) (l .written) (n .states)) nexts longs i left m' r'
-    looping-still h =
-        let u : l .used ≡ n .used = eu ∙ ap (λ (b : Bool). n .used + when (b && isWrite (ch .mode)) 1 0) h ∙ none-more (n .used) in
-        let v : l .written ≡ n .written = ew ∙ ap (λ (b : Bool). n .written + when (b && isRead (ch .mode)) 1 0) h ∙ none-more (n .written) in
-        let x : m' ≡ m = em ∙ ap (λ (b : Bool). when (b && isWrite (ch .mode)) (spread (steps 16 (decrement (ch .mode)) address) (λ (x : ℕ). x) (drop (n .used) d) m 1) m) h ∙ when-miss _ _ _ refl in
-        let y : r' ≡ r = er ∙ ap (λ (b : Bool). when (b && isRead (ch .mode)) (take (n .written) r ++ spread (λ (x : ℕ). x) (steps 16 (decrement (ch .mode)) address) m (drop (n .written) r) 1) r) h ∙ when-miss _ _ _ refl in
-        rw (u, v, x, y) g
+    looping-still h = let x = still-all ch q (f .copier) n d m r count address ec ea single es l m' r' el eu ew em er h in rw (x .used, x .written, x .memory, x .room) g
 
     module _ (made : l .made ≡ true) where
-      here : madeAlone may (ch .mode) (length d - n .used) (length r - n .written) ≡ true
-      here = sym el ∙ made
-
-      may-is : may ≡ true
-      may-is = may-be may (ch .mode) _ _ here
-
-      last-two : not (eqb count 0) && not (eqb q (f .copier)) ≡ true
-      last-two = both-right single (not (eqb count 0) && not (eqb q (f .copier))) may-is
-
-      no-copier : q ≡ f .copier → ⊥
-      no-copier = eqb-false _ _ (not-true _ (both-right (not (eqb count 0)) (not (eqb q (f .copier))) last-two))
-
-      some-count : ch .count ≡ 0 → ⊥
-      some-count z = eqb-false _ _ (not-true _ (both-left (not (eqb count 0)) (not (eqb q (f .copier))) last-two)) (ec ∙ z)
+      told : Made ch q (f .copier) n d m r count address ec ea single es l m' r' el eu ew em er
+      told = made-all ch q (f .copier) n d m r count address ec ea single es l m' r' el eu ew em er made
 
       run-is : runNext (course (resting s i) m r services all) d
           ≡ stop (world (resting (withChannel s q (stepped ch)) q) (stored ch (drop (n .used) d) m 1) (loaded ch m (drop (n .written) r) 1) (countsOf ch 1 (pace (s .command) (s .waits) + 1))) Ended
-      run-is =
-          turn-alone s i q resting-now m d r services all who' (rw (sym ea) ha) (rw (sym ec) hc) (serves-device s i q f (g .facts) no-copier) (sym es ∙ both-left single (not (eqb count 0) && not (eqb q (f .copier))) may-is) some-count
-          (found-some ch may (length d - n .used) (length r - n .written) here)
-
-      memory-is : stored ch (drop (n .used) d) m 1 ≡ m'
-      unfolding addressAfter
-      memory-is =
-          ap (λ (a : ℕ). when (isWrite (ch .mode)) (spread (steps 16 (decrement (ch .mode)) a) (λ (x : ℕ). x) (drop (n .used) d) m 1) m) (sym ea)
-          ∙ ap (λ (b : Bool). when (b && isWrite (ch .mode)) (spread (steps 16 (decrement (ch .mode)) address) (λ (x : ℕ). x) (drop (n .used) d) m 1) m) (sym made) ∙ sym em
-
-      room-is : take (n .written) r ++ loaded ch m (drop (n .written) r) 1 ≡ r'
-      unfolding addressAfter
-      room-is =
-          tail-when (isRead (ch .mode)) (n .written) r (spread (λ (x : ℕ). x) (steps 16 (decrement (ch .mode)) (ch .address)) m (drop (n .written) r) 1)
-          ∙ ap (λ (a : ℕ). when (isRead (ch .mode)) (take (n .written) r ++ spread (λ (x : ℕ). x) (steps 16 (decrement (ch .mode)) a) m (drop (n .written) r) 1) r) (sym ea)
-          ∙ ap (λ (b : Bool). when (b && isRead (ch .mode)) (take (n .written) r ++ spread (λ (x : ℕ). x) (steps 16 (decrement (ch .mode)) address) m (drop (n .written) r) 1) r) (sym made) ∙ sym er
+      run-is = turn-alone s i q resting-now m d r services all who' (rw (sym ea) ha) (rw (sym ec) hc) (serves-device s i q f (g .facts) (told .device)) (told .alone) (told .more) (told .found)
 
       totals-is : plus all (countsOf ch 1 (pace (s .command) (s .waits) + 1)) ≡ withAlone (counts (n .transfers) (l .used) (l .written) (n .states)) (k - (left - 1) - longs) (f .pace)
       totals-is =
@@ -410,14 +352,14 @@ module _ (k : ℕ) (d : List ℕ) (size : ℕ) (o : Close) (f : Facts) (s : Cont
           let cost : n .states + x * (f .pace + 1) + (pace (s .command) (s .waits) + 1) ≡ n .states + (k - (left - 1) - longs) * (f .pace + 1) =
           ap (λ (p : ℕ). n .states + x * (f .pace + 1) + (p + 1)) pace-is ∙ add-assoc (n .states) (x * (f .pace + 1)) (f .pace + 1) ∙ ap (λ (y : ℕ). n .states + y) (sym times) ∙ ap (λ (y : ℕ). n .states + y * (f .pace + 1)) (sym one) in
           counts-same _ _ _ _ _ _ _ _ made-one
-          (ap (λ (b : Bool). n .used + when (b && isWrite (ch .mode)) 1 0) (sym made) ∙ sym eu)
-          (ap (λ (b : Bool). n .written + when (b && isRead (ch .mode)) 1 0) (sym made) ∙ sym ew)
+          (told .used)
+          (told .written)
           cost
 
       pub looping-alone : (x : Channel) → x ≡ stepped ch → Looping k d size o f (withChannel s q x) (set services q (getD services q 0 + 1)) (counts (n .transfers) (l .used) (l .written) (n .states)) nexts longs q (left - 1) m' r'
       looping-alone x ex =
           rw ex
-          (turned k d size o f s services n nexts longs i left m r g more' q refl somebody' _ run-is (withChannel s q (stepped ch)) m' r' (counts (n .transfers) (l .used) (l .written) (n .states)) nexts longs refl memory-is room-is totals-is refl refl refl
+          (turned k d size o f s services n nexts longs i left m r g more' q refl somebody' _ run-is (withChannel s q (stepped ch)) m' r' (counts (n .transfers) (l .used) (l .written) (n .states)) nexts longs refl (told .memory) (told .room) totals-is refl refl refl
           (λ y. modes-kept (s .channels) q y (stepped ch) refl) (g .listed) (omega (arith, g .long)))
 
   -- A long service: what a leg of a device's service leaves, as the code computes it.
@@ -498,9 +440,8 @@ module _ (k : ℕ) (d : List ℕ) (size : ℕ) (o : Close) (f : Facts) (s : Cont
       there-is : withBits (withChannel s q (leg .channel)) (leg .bits) ≡ withBits (withChannel s q (u .channel)) (u .bits)
       there-is = ap (λ (x : Turn). withBits (withChannel s q (x .channel)) (x .bits)) (sym turn-is)
 
-      leg-mode : u .channel .mode ≡ ch .mode
-      unfolding legOf currentAfter
-      leg-mode = ap (λ (x : Turn). x .channel .mode) turn-is ∙ when-both (λ (x : Channel). x .mode ≡ ch .mode) (eqb (l .transfers) (ch .count + 1) || eqb (l .transfers) 0) refl refl
+      turn-mode : u .channel .mode ≡ ch .mode
+      turn-mode = ap (λ (x : Turn). x .channel .mode) turn-is ∙ leg-mode (s .edition) q ch (bitsOf s) true (pace (s .command) (s .waits)) (l .transfers) 0
 
       -- and ended the service
       pub looping-leg : isEnded (l .why) ≡ true → (nexts' : List ℕ) → nexts' ≡ nextsOf f (u .bits .mask) (u .bits .request)
@@ -508,7 +449,7 @@ module _ (k : ℕ) (d : List ℕ) (size : ℕ) (o : Close) (f : Facts) (s : Cont
       looping-leg h nexts' en =
           turned k d size o f s services n nexts longs i left m r g more' q refl somebody' _ (leg-ended s i q resting-now m d r services all who' below small device l span-told some (ended-is (l .why) h))
           (withBits (withChannel s q (u .channel)) (u .bits)) m' r' (u .counts) nexts' (longs + 1) (ap (λ (x : Controller). resting x q) there-is) memory-left room-left totals-left refl refl refl
-          (λ y. modes-kept (s .channels) q y (u .channel) leg-mode) en (omega (arith, g .long, g .fewer, more'))
+          (λ y. modes-kept (s .channels) q y (u .channel) turn-mode) en (omega (arith, g .long, g .fewer, more'))
 
       -- or did not, and the round closes
       pub looping-halted : isEnded (l .why) ≡ false → (done : Bool)
@@ -565,12 +506,7 @@ module _ (k : ℕ) (d : List ℕ) (size : ℕ) (o : Close) (f : Facts) (s : Cont
     left-by x y at = withBits (withChannel (withChannel (put s Temporary y) at (x .source)) 1 (x .target)) (x .bits)
 
     modes-copied : (y : ℕ) → channel (left-by u byte q) y .mode ≡ channel s y .mode
-    unfolding copyLegOf legOf currentAfter
-    modes-copied y =
-        let from : u .source .mode ≡ ch .mode = ap (λ (x : Copied). x .source .mode) (sym copy-is) ∙ source-mode _ ch _ in
-        let to : u .target .mode ≡ channel s 1 .mode =
-        ap (λ (x : Copied). x .target .mode) (sym copy-is) ∙ when-both (λ (x : Channel). x .mode ≡ channel s 1 .mode) (eqb (channel s 1 .count + 1) (channel s 1 .count + 1) || eqb (channel s 1 .count + 1) 0) refl refl in
-        modes-kept (set (s .channels) q (u .source)) 1 y (u .target) (to ∙ sym (modes-kept (s .channels) q 1 (u .source) from)) ∙ modes-kept (s .channels) q y (u .source) from
+    modes-copied y = rw copy-is at (copy-modes s q ch (channel s 1) (bitsOf s) (addressHold (s .command)) (channel s 1 .count + 1) refl refl y)
 
     pub looping-copied : (nexts' : List ℕ) → nexts' ≡ nextsOf f (u .bits .mask) (u .bits .request)
         → Looping k d size o f (left-by u byte q) (set services q (getD services q 0 + 1)) n' nexts' (longs + 1) q (left - 1) m' r

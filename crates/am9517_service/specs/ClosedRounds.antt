@@ -4,7 +4,7 @@ use mathlib.Core.Bool.{Bool, true, not, _&&_}
 use mathlib.Core.List.{List, [], _∷_}
 use lib.Dec.{eqb}
 use Rattle.words.specs.Choice.{when}
-use Rattle.am9517.specs.Fields.{put, InService, Serving, Lowest}
+use Rattle.am9517.specs.Fields.{withChannel, put, InService, Serving, LatchFull, Latch, Lowest}
 use Rattle.am9517.specs.Modes.{memoryToMemoryBit, addressHold, rotating, isWrite, isRead}
 use Rattle.am9517.specs.Serving.{pickedFrom}
 use Rattle.am9517.specs.ClosedSets.{linesOf, blocksOf, entitledOf}
@@ -18,9 +18,13 @@ use Rattle.am9517_service.specs.declared.RoundAnswer.the-variants.{Done,
 use Rattle.am9517_service.specs.declared.legs.Bits.{Bits}
 use Rattle.am9517_service.specs.declared.rounds.Facts.{Facts}
 use Rattle.am9517_service.specs.declared.rounds.Turn.{Turn}
+use Rattle.am9517_service.specs.declared.turns.Rota.{Rota}
+use Rattle.am9517_service.specs.declared.turns.Served.{Served}
 use Rattle.am9517_service.specs.Counts.{counts, plus}
+use Rattle.am9517_service.specs.Ends.{withBits}
 use Rattle.am9517_service.specs.States.{pace}
 use Rattle.am9517_service.specs.ClosedLegs.{legOf, countsOf}
+use Rattle.am9517_service.specs.ClosedSpans.{staysOpen}
 
 -- what a round needs of the command, the wait states, the pins and the modes, which stay
 abbrev pub factsOf : Controller → Facts
@@ -58,3 +62,11 @@ answerOf Dropped done = Stopped Dropped
 answerOf Cascade done = Stopped Cascade
 answerOf Limit done = Stopped Limit
 answerOf Short done = Stopped Short
+
+-- the service of channel i whose leg left u and stopped so; where it stays open, its address is latched
+abbrev pub turnedOf : Rota → ℕ → Turn → Reason → Served
+turnedOf ρ i u why =
+    let stays = staysOpen why in
+    let s = withBits (withChannel (ρ .controller) i (u .channel)) (u .bits) in
+    let c = settledOf (put (put s LatchFull (when stays 1 0)) Latch (when stays (u .latch) 0)) i (ρ .facts .rotating) stays in
+    record { rota = record { controller = c; facts = ρ .facts; nexts = nextsOf (ρ .facts) (u .bits .mask) (u .bits .request) }; why = why; counts = u .counts }

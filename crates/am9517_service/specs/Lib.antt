@@ -18,3 +18,5 @@ pub mod ClosedLegs
 pub mod ClosedCopies
 pub mod Needs
 pub mod ClosedRounds
+-- one service of a round at a time, for rounds over several controllers
+pub mod Turns

@@ -8,13 +8,20 @@ mod rounds;
 mod runs;
 mod spans;
 mod transfers;
+mod turns;
 
 pub use legs::Bits;
 pub use legs::bits_after;
 pub use legs::channel_after;
+pub use rounds::Facts;
 pub use rounds::round;
 pub use runs::run;
 pub use runs::run_refusal;
+pub use turns::Rota;
+pub use turns::Served;
+pub use turns::next_of;
+pub use turns::rota_of;
+pub use turns::serve;
 
 // Why a run stopped.
 pub enum Reason {

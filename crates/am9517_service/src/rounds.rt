@@ -71,7 +71,7 @@ pub struct Facts {
 }
 
 // The copier is the channel whose services are memory-to-memory: 0, or none.
-fn facts_of(c: Controller) -> Facts
+pub(crate) fn facts_of(c: Controller) -> Facts
     ensures { λ r. ⌜ (r ≡ factsOf c) × (r .pace ≤ mostPace) ⌝ }
 {
     let pace = pace_of(c.command, c.waits);
@@ -87,7 +87,7 @@ fn facts_of(c: Controller) -> Facts
 }
 
 // Who is next behind each channel served last.
-fn nexts_of(f: Facts, mask: u8, request: u8) -> [u8; 4]
+pub(crate) fn nexts_of(f: Facts, mask: u8, request: u8) -> [u8; 4]
     ensures { λ r. ⌜ r ≡ nextsOf f mask request ⌝ }
 {
     let set = entitled_of(f.lines, f.blocks, mask, request);
@@ -104,7 +104,7 @@ fn nexts_of(f: Facts, mask: u8, request: u8) -> [u8; 4]
 }
 
 // The same, asked anew where a mask or request bit changed.
-fn nexts_after(f: Facts, nexts: [u8; 4], was: Bits, mask: u8, request: u8) -> [u8; 4]
+pub(crate) fn nexts_after(f: Facts, nexts: [u8; 4], was: Bits, mask: u8, request: u8) -> [u8; 4]
     requires { ⌜ nexts ≡ nextsOf f (was .mask) (was .request) ⌝ }
     ensures { λ r. ⌜ r ≡ nextsOf f mask request ⌝ }
 {
@@ -115,13 +115,13 @@ fn nexts_after(f: Facts, nexts: [u8; 4], was: Bits, mask: u8, request: u8) -> [u
 }
 
 // A word and a channel that come out of an array bring their bounds along here.
-fn bounded(w: u16) -> u16
+pub(crate) fn bounded(w: u16) -> u16
     ensures { λ r. ⌜ (r ≡ w) × (r < 65536) ⌝ }
 {
     w
 }
 
-fn bounded_channel(ch: Channel) -> Channel
+pub(crate) fn bounded_channel(ch: Channel) -> Channel
     ensures { λ r. ⌜ (r ≡ ch) × (r .address < 65536) × (r .count < 65536) ⌝ }
 {
     ch
@@ -135,7 +135,7 @@ pub struct Alone {
 }
 
 // The transfer of a service that may make one alone, if it finds its byte or its place.
-fn transfer_alone(
+pub(crate) fn transfer_alone(
     may: bool,
     mode: u8,
     address: u16,
@@ -187,7 +187,7 @@ fn transfer_alone(
 }
 
 // The channel after one transfer.
-fn stepped(ch: Channel) -> Channel
+pub(crate) fn stepped(ch: Channel) -> Channel
     ensures { λ r. ⌜ r ≡ stepped ch ⌝ }
 {
     let mut next = ch;
@@ -206,7 +206,7 @@ pub struct Turn {
 
 // A leg of n transfers of the service of channel i that was just granted: lent the device bytes not yet used, and the room behind
 // the last byte written.
-fn turn_of(
+pub(crate) fn turn_of(
     edition: u8,
     pace: u64,
     i: usize,
@@ -285,7 +285,7 @@ fn totals_of(n: Counts, alone: u64, pace: u64) -> Counts
 }
 
 // The controller behind the last service, channel i's, which stays open or not.
-fn settled(s: Controller, i: usize, rotating: bool, stays: bool) -> Controller
+pub(crate) fn settled(s: Controller, i: usize, rotating: bool, stays: bool) -> Controller
     requires { ⌜ i < 4 ⌝ }
     ensures { λ r. ⌜ r ≡ settledOf s i rotating stays ⌝ }
 {
