@@ -14,6 +14,7 @@ pub use legs::Bits;
 pub use legs::bits_after;
 pub use legs::channel_after;
 pub use rounds::Facts;
+pub use rounds::is_ended;
 pub use rounds::round;
 pub use runs::run;
 pub use runs::run_refusal;

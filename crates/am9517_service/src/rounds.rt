@@ -259,7 +259,7 @@ fn answer_of(why: Reason, done: bool) -> RoundAnswer
     }
 }
 
-fn is_ended(why: Reason) -> bool
+pub fn is_ended(why: Reason) -> bool
     ensures { λ r. ⌜ r ≡ isEnded why ⌝ }
 {
     match why {

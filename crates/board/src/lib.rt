@@ -24,9 +24,11 @@ mod bus;
 mod chips;
 mod ranges;
 mod refusals;
+mod rounds;
 mod runs;
 mod sheets;
 
+pub use rounds::round;
 pub use runs::run;
 pub use sheets::read_sheet;
 pub use sheets::write_sheet;
