@@ -8,8 +8,11 @@ use Rattle.am9517.specs.Fields.{make, but, field, Command, Mask, Pins}
 use Rattle.am9517.specs.declared.Channel.{Channel}
 use Rattle.am9517.specs.declared.Controller.{Controller}
 use Rattle.board.specs.declared.Board.{Board}
+use Rattle.board.specs.declared.Chip.the-variants.{Second}
+use Rattle.demands.specs.Lists.{All}
 use Rattle.board_demands.specs.Operations.{Round}
 use Rattle.board_demands.specs.Grants.{made, channels}
+use Rattle.board_demands.specs.Fairness.{Contends}
 
 -- a channel of verify, single mode, with more to do than a round of eight gives it
 abbrev pub single : Channel
@@ -25,4 +28,6 @@ crowdedBoard = record { first = crowded; second = crowded; «granted_last» = 1 
 
 -- the grants of a round of eight: channel 7, entitled at each, sees seven others first
 abbrev pub BoardTight : Type 0
-BoardTight = (m d r : List ℕ) → length m ≡ 65536 → channels (made crowdedBoard (Round m d r 8)) ≡ 0 ∷ 4 ∷ 1 ∷ 5 ∷ 2 ∷ 6 ∷ 3 ∷ 7 ∷ []
+BoardTight =
+    (m d r : List ℕ) → length m ≡ 65536
+    → All (Contends Second 3) (made crowdedBoard (Round m d r 8)) × (channels (made crowdedBoard (Round m d r 8)) ≡ 0 ∷ 4 ∷ 1 ∷ 5 ∷ 2 ∷ 6 ∷ 3 ∷ 7 ∷ [])
