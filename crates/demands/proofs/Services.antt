@@ -21,7 +21,6 @@ use Rattle.am9517_service.specs.Copy.{copied}
 use Rattle.am9517_service.specs.Ends.{reachesTc, finished, afterTcOrEop, single, ends}
 use Rattle.am9517_service.specs.Run.{transferred, runOf}
 use Rattle.am9517_service.specs.Answers.{Given, stopped, runGrounds, ranOf}
-use Rattle.demands.specs.Operations.{Run, said}
 use Rattle.demands.specs.Services.{openBehind, Stops, StopsAsSaid}
 use Rattle.words.proofs.ChoiceLaws.{when-both}
 use Rattle.am9517.proofs.RangeLaws.{Ranges, ranges, fields}
