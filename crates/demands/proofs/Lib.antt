@@ -7,6 +7,7 @@ pub mod Rounds
 pub mod Fairness
 pub mod AccessLaws
 pub mod Ranges
+pub mod Services
 pub mod Calls
 pub mod Sheets
 pub mod Steps

@@ -1,0 +1,4 @@
+pub mod Refusals
+pub mod Cases
+pub mod Alone
+pub mod Ranges
