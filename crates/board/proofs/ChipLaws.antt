@@ -5,12 +5,20 @@ use Rattle.am9517.specs.declared.Controller.{Controller}
 use Rattle.board.specs.declared.Board.{Board}
 use Rattle.board.specs.declared.Chip.{Chip}
 use Rattle.board.specs.declared.Chip.the-variants.{First, Second}
-use Rattle.board.specs.Chips.{numberOf, chip, withChip}
+use Rattle.board.specs.Chips.{numberOf, chip, withChip, other}
 use Rattle.board.specs.Bus.{turnedTo}
 
 pub chip-back : (b : Board) (which : Chip) → withChip b which (chip b which) ≡ b
 chip-back b First = refl
 chip-back b Second = refl
+
+pub chip-put : (b : Board) (which : Chip) (c : Controller) → chip (withChip b which c) which ≡ c
+chip-put b First c = refl
+chip-put b Second c = refl
+
+pub chip-other : (b : Board) (which : Chip) (c : Controller) → chip (withChip b which c) (other which) ≡ chip b (other which)
+chip-other b First c = refl
+chip-other b Second c = refl
 
 -- a chip put, and granted last
 pub turned : (b : Board) (which : Chip) (c : Controller) (next : Board) (n : ℕ) → next ≡ withChip b which c → n ≡ numberOf which

@@ -54,7 +54,7 @@ use Rattle.demands.proofs.Ranges.{ranges-kept, not-by-1, fresh-valid}
 use Rattle.demands.proofs.Services.{stops-as-said}
 use Rattle.board_demands.proofs.Refusals.{board-demand-1}
 
-abbrev Valid : Board → Type 0
+abbrev pub Valid : Board → Type 0
 Valid b = pairValid b ≡ true
 
 of-pair : (b : Board) → Pair b → Valid b
@@ -176,10 +176,10 @@ reading-valid b v form which bytes h =
     put-valid b which _ (pair b v) (ranges-kept .kept (chip b which) (alone.SheetReading form bytes) (each b (pair b v) which)) h
 
 -- A round: where it stands between two services.
-record Stands (w : BoardCourse) : Type 0 where
-  range : Valid (w .board)
-  idle : serves (w .board) ≡ false
-  memory : length (w .memory) ≡ 65536
+pub record Stands (w : BoardCourse) : Type 0 where
+  pub range : Valid (w .board)
+  pub idle : serves (w .board) ≡ false
+  pub memory : length (w .memory) ≡ 65536
 
 chip-runs : (c : Controller) (m : List ℕ) → valid c ≡ true → length m ≡ 65536 → idle c ≡ false → refusal (runGrounds c m) ≡ 0
 unfolding refusal first when
@@ -206,16 +206,16 @@ either-idle b First c e h = rw (e, h) refl
 either-idle b Second c e h = rw (e, h) refl
 
 module _ (d : List ℕ) (w : BoardCourse) (at : Stands w) (some : quiet (w .board) ≡ false) where
-  abbrev who : Chip
+  abbrev pub who : Chip
   who = winner (w .board)
 
-  abbrev g : Controller
+  abbrev pub g : Controller
   g = granted (winning (w .board)) (picked (winning (w .board)))
 
-  abbrev bytes : List ℕ
+  abbrev pub bytes : List ℕ
   bytes = drop (w .totals .used) d
 
-  abbrev room : List ℕ
+  abbrev pub room : List ℕ
   room = drop (w .totals .written) (w .room)
 
   still : busy (chip (w .board) (other who)) ≡ false
@@ -229,7 +229,7 @@ module _ (d : List ℕ) (w : BoardCourse) (at : Stands w) (some : quiet (w .boar
   free = chip-runs g (w .memory) g-valid (at .memory) (granted-open (winning (w .board)) (picked (winning (w .board))))
 
   -- the next service is a run of the chip by itself
-  ran : ranOf g (w .memory) bytes room 65536 0 ≡ stopped (serviceNext w d)
+  pub ran : ranOf g (w .memory) bytes room 65536 0 ≡ stopped (serviceNext w d)
   unfolding ranOf runNext
   ran = when-hit _ _ _ (eq-eqb _ _ free)
 
@@ -256,7 +256,7 @@ module _ (d : List ℕ) (w : BoardCourse) (at : Stands w) (some : quiet (w .boar
   unfolding withService
   after-valid = turned-valid (w .board) who _ (pair (w .board) (at .range)) left-valid still
 
-  stands-on : isEnded (serviceNext w d .reason) ≡ true → Stands (afterService w d)
+  pub stands-on : isEnded (serviceNext w d .reason) ≡ true → Stands (afterService w d)
   unfolding withService
   stands-on e = record { range = after-valid; idle = either-idle (w .board) who _ (left-idle e) still; memory = left-memory }
 
@@ -268,17 +268,19 @@ round-valid (suc left) d w at =
     when-each P (quiet (w .board)) (λ e. at .range)
     (λ some. when-each P (not (isEnded (serviceNext w d .reason))) (λ e. after-valid d w at some) (λ e. round-valid left d (afterService w d) (stands-on d w at some (not-false _ e))))
 
-round-free : (b : Board) (m : List ℕ) (k : ℕ) → refusal (boardRoundGrounds b m k) ≡ 0 → (length m ≡ 65536) × (serves b ≡ false)
+-- an accepted round begins so
+pub round-stands : (b : Board) (m r : List ℕ) (k : ℕ) → refusal (boardRoundGrounds b m k) ≡ 0 → Stands (boardBeginning b m r)
 unfolding refusal first
-round-free b m k e =
-    let size = passed _ _ _ (omega arith) (passed _ _ _ (omega arith) (passed _ _ _ (omega arith) e .next) .next) in
-    (eqb-true _ _ (not-false _ (size .test)), passed _ _ _ (omega arith) (size .next) .test)
+round-stands b m r k e =
+    let good = passed _ _ _ (omega arith) e in
+    let size = passed _ _ _ (omega arith) (passed _ _ _ (omega arith) (good .next) .next) in
+    record { range = not-false _ (good .test); idle = passed _ _ _ (omega arith) (size .next) .test; memory = eqb-true _ _ (not-false _ (size .test)) }
 
 rounded-valid : (b : Board) → Valid b → (m d r : List ℕ) (k : ℕ) → Valid (next b (Round m d r k))
 unfolding boardRoundedOf boardClosed
 rounded-valid b v m d r k =
     when-each (λ (x : BoardRoundGiven). Valid (x .rounded .board)) _
-    (λ e. let free = round-free b m k (eqb-true _ _ e) in round-valid k d (boardBeginning b m r) (record { range = v; idle = free .1; memory = free .0 })) (λ e. v)
+    (λ e. round-valid k d (boardBeginning b m r) (round-stands b m r k (eqb-true _ _ e))) (λ e. v)
 
 kept : (b : Board) (op : BoardOp) → Valid b → (ReadsSheet op → bothServe (next b op) ≡ false) → Valid (next b op)
 kept b (Write r x) v h = write-valid b v r x
