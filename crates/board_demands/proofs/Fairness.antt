@@ -4,12 +4,10 @@ use mathlib.Core.Path.{_≡_, refl, sym, _∙_, ap, subst}
 use mathlib.Core.Bool.{Bool, true, false, not}
 use mathlib.Core.List.{List, [], _∷_, _++_}
 use native.Mathlib.Omega.{arith}
-use lib.Dec.{eqb, leb}
-use lib.ListN.{length}
+use lib.Dec.{eqb}
 use borrow.Author.Tests.{eqb-true, eqb-false, ne-eqb, leb-true, not-false}
-use Rattle.words.specs.Choice.{when, _and_}
+use Rattle.words.specs.Choice.{when}
 use Rattle.words.specs.Grounds.{_if_, first}
-use Rattle.am9517.specs.Modes.{rotating}
 use Rattle.am9517.specs.Ranges.{valid, fieldsValid}
 use Rattle.am9517.specs.Refusals.{refusal}
 use Rattle.am9517.specs.Serving.{entitled, picked, granted}
@@ -22,24 +20,22 @@ use Rattle.am9517_service.specs.Answers.{Given, stopped}
 use Rattle.am9517_service.specs.Round.{nobody, isEnded}
 use Rattle.am9517_sheet.specs.declared.forms.Form.{Form}
 use Rattle.am9517_sheet.specs.declared.SheetAnswer.the-variants as sheet
-use Rattle.am9517_sheet.specs.Sheet.{sheetRefusalNumber, answerOf, sheetReadGrounds, sheetReadOf}
+use Rattle.am9517_sheet.specs.Sheet.{sheetRefusalNumber, answerOf}
 use Rattle.board.specs.declared.Board.{Board}
 use Rattle.board.specs.declared.Chip.{Chip}
 use Rattle.board.specs.declared.Chip.the-variants.{First, Second}
-use Rattle.board.specs.declared.BoardOutcome.{BoardOutcome}
 use Rattle.board.specs.Chips.{numberOf, other, chip, withChip, addressed, own, channelOf}
 use Rattle.board.specs.Bus.{winnerOf, winner, winning, winningChannel, quiet, turnedTo, grantedTo}
 use Rattle.board.specs.Refusals.{boardGrantGrounds, boardRoundGrounds}
-use Rattle.board.specs.Answers.{boardOutcome, pinned, boardGrantOf}
+use Rattle.board.specs.Answers.{boardOutcome, pinned}
 use Rattle.board.specs.Runs.{server, BoardGiven, boardRanOf}
 use Rattle.board.specs.Round.{BoardCourse, boardBeginning, serviceNext, withService, afterService, boardClose, boardRoundOf}
 use Rattle.board.specs.RoundAnswers.{boardClosed, boardRoundedOf}
-use Rattle.demands.specs.Lists.{All, none, also}
+use Rattle.demands.specs.Lists.{All, also}
 use Rattle.demands.proofs.Turns.{place}
 use Rattle.demands.proofs.Fairness.{Early, picked-early, lowest-granted, afterWrite-kept, after-read-kept, run-kept}
-use Rattle.words.proofs.ChoiceLaws.{when-both, when-each, both, never}
-use Rattle.board.proofs.ChipLaws.{chip-back, chip-put, chip-other}
-use Rattle.board.proofs.OutcomeLaws.{stated, Pair, pair, each, grant-passed, picked-few}
+use Rattle.words.proofs.ChoiceLaws.{when-both, when-each, both}
+use Rattle.board.proofs.OutcomeLaws.{stated, pair, each, grant-passed, picked-few}
 use Rattle.board_demands.specs.Operations.{BoardOp, Write, Read, Pins, Reset, Waits, Grant, Run, Round, SheetWriting, SheetReading, next}
 use Rattle.board_demands.specs.Grants.{BoardGranted, granted as granted-on, told, roundGrants, made, grants, channels}
 use Rattle.board_demands.specs.Fairness.{Traced, Trace, Contends, BoardFair, BoardDemand3}

@@ -4,3 +4,4 @@ pub mod Alone
 pub mod Ranges
 pub mod Turns
 pub mod Fairness
+pub mod Reports

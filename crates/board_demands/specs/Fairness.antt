@@ -1,6 +1,6 @@
 -- Demand 3 on the board. "A channel entitled at every board grant, its own controller rotating at each, with no reset, master clear or sheet
 -- reading between, sees at most seven other services first."
-use Prim.Native.Nat.{ℕ, _+_, _*_, _/_, _%_, _≤_, _<_}
+use Prim.Native.Nat.{ℕ, _/_, _≤_, _<_}
 use mathlib.Core.Path.{_≡_}
 use mathlib.Core.Bool.{true}
 use mathlib.Core.List.{List, [], _∷_, _++_}
