@@ -1,4 +1,4 @@
-/* am9517.h - one Am9517A or Intel 8237A DMA controller in software, as a C library. Version 4.2.0.
+/* am9517.h - one Am9517A or Intel 8237A DMA controller in software, as a C library. Version 4.3.0.
  *
  *     am9517_chip chip = am9517_fresh(AM9517_EDITION_AM9517A);
  *     uint32_t refusal = am9517_write(&chip, 0xb, 0x85);
@@ -90,9 +90,9 @@ extern "C" {
 #endif
 
 #define AM9517_VERSION_MAJOR 4
-#define AM9517_VERSION_MINOR 2
+#define AM9517_VERSION_MINOR 3
 #define AM9517_VERSION_PATCH 0
-#define AM9517_VERSION 40200  /* major * 10000 + minor * 100 + patch */
+#define AM9517_VERSION 40300  /* major * 10000 + minor * 100 + patch */
 
 #define AM9517_SHEET_SIZE 56      /* bytes of a stored sheet, form 1 */
 #define AM9517_SHEET2_SIZE 58     /* and of one of form 2 */

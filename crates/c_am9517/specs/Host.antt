@@ -13,17 +13,14 @@ use Rattle.am9517.specs.declared.Outcome.{Outcome}
 use Rattle.am9517_service.specs.Answers.{Given}
 use Rattle.am9517_service.specs.RoundAnswers.{RoundGiven}
 use Rattle.am9517_sheet.specs.declared.SheetRead.{SheetRead}
-use Rattle.am9517_sheet.specs.Sheet.{Stored, sheetRefusalNumber}
-use Rattle.c_am9517.specs.declared.Told.{Told}
-use Rattle.c_am9517.specs.declared.RunTold.{RunTold}
+use Rattle.am9517_sheet.specs.Sheet.{sheetRefusalNumber}
+use Rattle.c_told.specs.declared.Told.{Told}
+use Rattle.c_told.specs.declared.RunTold.{RunTold}
+use Rattle.c_told.specs.Numbers.{told, toldOf, runToldOf}
 use Rattle.c_am9517.specs.declared.RoundTold.{RoundTold}
 use Rattle.c_am9517.specs.declared.JudgeTold.{JudgeTold}
 use Rattle.logs.specs.Answers.{JudgeGiven}
-use Rattle.c_am9517.specs.Numbers.{told, toldOf, runToldOf, roundToldOf, judgeToldOf}
-
--- major * 10000 + minor * 100 + patch
-abbrev pub version : ℕ
-version = 40200
+use Rattle.c_am9517.specs.Numbers.{roundToldOf, judgeToldOf}
 
 -- a look is refused by 1, "the state breaks a range of the sheet section", and shows nothing then
 abbrev pub lookGrounds : Controller → List (Ground ℕ)
@@ -48,17 +45,6 @@ callOf o = left (o .controller) (toldOf (o .answer))
 abbrev pub loadOf : SheetRead → Left
 loadOf x = left (x .controller) (told (sheetRefusalNumber (x .answer)) 0)
 
--- A sheet written or converted: the number said, and the lent bytes after it.
-pub record Saved : Type 0 where
-  pub refusal : ℕ
-  pub sheet : List ℕ
-
-abbrev pub saved : ℕ → List ℕ → Saved
-saved n bs = record { refusal = n; sheet = bs }
-
-abbrev pub saveOf : Stored → Saved
-saveOf s = saved (sheetRefusalNumber (s .answer)) (s .bytes)
-
 -- A run, and the memory and room that it leaves.
 pub record RunLeft : Type 0 where
   pub chip : Controller
@@ -70,7 +56,7 @@ abbrev pub runLeft : Controller → RunTold → List ℕ → List ℕ → RunLef
 runLeft s t m r = record { chip = s; said = t; memory = m; room = r }
 
 abbrev pub runCallOf : Given → RunLeft
-runCallOf g = runLeft (g .ran .controller) (runToldOf (g .ran)) (g .memory) (g .room)
+runCallOf g = runLeft (g .ran .controller) (runToldOf (g .ran .answer) (g .ran .counts)) (g .memory) (g .room)
 
 -- A round likewise.
 pub record RoundLeft : Type 0 where

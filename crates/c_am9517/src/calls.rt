@@ -1,19 +1,19 @@
 // What each call does with a chip by value: the next chip, and the answer in numbers.
 use crate::JudgeTold;
 use crate::RoundTold;
-use crate::RunTold;
-use crate::Told;
 use crate::display::requesting_set;
 use crate::numbers::judge_told_of;
 use crate::numbers::round_told_of;
-use crate::numbers::run_told_of;
-use crate::numbers::sheet_number;
-use crate::numbers::told_of;
-use crate::numbers::wide;
 use am9517::Answer;
 use am9517::Controller;
 use am9517::Outcome;
 use am9517_sheet::Form;
+use c_told::RunTold;
+use c_told::Told;
+use c_told::run_told_of;
+use c_told::sheet_number;
+use c_told::told_of;
+use c_told::wide;
 ghost use mathlib.Core.Path.{_≡_};
 ghost use Rattle.am9517.specs.Answers.{refusalNumber, writeOf, readOf, pinsOf, resetOf, waitsOf, grantOf};
 ghost use Rattle.am9517.specs.Serving.{entitled, setOf, status};
@@ -23,8 +23,8 @@ ghost use lib.ListN.{length};
 ghost use Rattle.logs.specs.Answers.{judgedOf};
 ghost use Rattle.am9517_sheet.specs.declared.forms.Form.the-variants.{One, Two};
 ghost use Rattle.am9517_sheet.specs.Sheet.{sheetWriteOf, sheetReadOf};
-ghost use Rattle.c_am9517.specs.Numbers.{told};
-ghost use Rattle.c_am9517.specs.Host.{lookOf, left, callOf, loadOf, saved, saveOf, runLeft, runCallOf, roundLeft, roundCallOf, judgeLeft, judgeCallOf};
+ghost use Rattle.c_told.specs.Numbers.{told, saved, saveOf};
+ghost use Rattle.c_am9517.specs.Host.{lookOf, left, callOf, loadOf, runLeft, runCallOf, roundLeft, roundCallOf, judgeLeft, judgeCallOf};
 
 // The next chip, and a refusal's number, 0 for none.
 pub struct Done {
@@ -164,7 +164,9 @@ pub(crate) fn run(
 {
     let ran = am9517_service::run(c, memory, device, room, limit, eop_at);
     let controller = ran.controller;
-    let said = run_told_of(ran);
+    let answer = ran.answer;
+    let counts = ran.counts;
+    let said = run_told_of(answer, counts);
     RunDone { controller, said }
 }
 

@@ -3,6 +3,10 @@
 use am9517::Controller;
 use am9517::Edition;
 use am9517_sheet::Form;
+use c_told::RunTold;
+use c_told::Told;
+use c_told::edition_byte;
+use c_told::sheet_number;
 ghost use mathlib.Core.Path.{_≡_};
 ghost use Rattle.am9517.specs.State.{fresh};
 ghost use Rattle.am9517.specs.Answers.{writeOf, readOf, pinsOf, resetOf, waitsOf, grantOf};
@@ -14,30 +18,12 @@ ghost use Rattle.logs.specs.Answers.{judgedOf};
 ghost use Rattle.am9517_sheet.specs.declared.forms.Form.the-variants.{One, Two};
 ghost use Rattle.am9517_sheet.specs.Sheet.{sheetWriteOf, sheetReadOf};
 ghost use Rattle.am9517_sheet.specs.Convert.{convertOf};
-ghost use Rattle.c_am9517.specs.Numbers.{editionByte, told};
-ghost use Rattle.c_am9517.specs.Host.{version, lookOf, left, callOf, loadOf, saved, saveOf, runLeft, runCallOf, roundLeft, roundCallOf, judgeLeft, judgeCallOf};
+ghost use Rattle.c_told.specs.Numbers.{version, editionByte, told, saved, saveOf};
+ghost use Rattle.c_am9517.specs.Host.{lookOf, left, callOf, loadOf, runLeft, runCallOf, roundLeft, roundCallOf, judgeLeft, judgeCallOf};
 
 mod calls;
 mod display;
 mod numbers;
-
-// A refusal's number, and the byte read, the channel granted or the set shown.
-#[repr(C)]
-pub struct Told {
-    pub refusal: u32,
-    pub value: u32,
-}
-
-// How a run went.
-#[repr(C)]
-pub struct RunTold {
-    pub refusal: u32,
-    pub reason: u32,
-    pub transfers: u64,
-    pub used: usize,
-    pub written: usize,
-    pub states: u64,
-}
 
 // How a round went.
 #[repr(C)]
@@ -65,7 +51,7 @@ pub struct JudgeTold {
 pub extern "C" fn am9517_version() -> u32
     ensures { λ r. ⌜ r ≡ version ⌝ }
 {
-    40200
+    c_told::version()
 }
 
 // A fresh chip of this edition; one of no edition is refused by 1 in every call but a load.
@@ -74,7 +60,7 @@ pub extern "C" fn am9517_fresh(edition: u32) -> Controller
     ensures { λ r. ⌜ r ≡ fresh (editionByte edition) ⌝ }
 {
     let mut chip = Controller::fresh(Edition::Am9517A);
-    chip.edition = numbers::edition_byte(edition);
+    chip.edition = edition_byte(edition);
     chip
 }
 
@@ -244,7 +230,7 @@ pub extern "C" fn am9517_load2(chip: &mut Controller, sheet: &[u8]) -> u32
 pub extern "C" fn am9517_forward(source: &[u8], target: &mut [u8]) -> u32
     ensures { λ r. ⌜ saved r (now (target .exit)) ≡ saveOf (convertOf Two (now (source .entry)) (now (target .entry))) ⌝ }
 {
-    numbers::sheet_number(am9517_sheet::convert(Form::Two, source, target))
+    sheet_number(am9517_sheet::convert(Form::Two, source, target))
 }
 
 // And one of form 2 in form 1.
@@ -252,5 +238,5 @@ pub extern "C" fn am9517_forward(source: &[u8], target: &mut [u8]) -> u32
 pub extern "C" fn am9517_back(source: &[u8], target: &mut [u8]) -> u32
     ensures { λ r. ⌜ saved r (now (target .exit)) ≡ saveOf (convertOf One (now (source .entry)) (now (target .entry))) ⌝ }
 {
-    numbers::sheet_number(am9517_sheet::convert(Form::One, source, target))
+    sheet_number(am9517_sheet::convert(Form::One, source, target))
 }

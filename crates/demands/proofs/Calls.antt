@@ -28,7 +28,8 @@ use Rattle.logs.specs.declared.Verdict.the-variants.{Accepted, Wrong, Refused}
 use Rattle.logs.specs.Answers.{JudgeGiven, judgeGiven, judgeRefusalNumber, judgedOf}
 use Rattle.logs.proofs.AnswerLaws.{stated, refused-by}
 use Rattle.logs.proofs.KeepLaws.{judged-keeps}
-use Rattle.c_am9517.specs.Numbers.{editionByte, valueOf, judgeToldOf}
+use Rattle.c_told.specs.Numbers.{editionByte, valueOf}
+use Rattle.c_am9517.specs.Numbers.{judgeToldOf}
 use Rattle.c_am9517.specs.Host.{lookGrounds, lookOf, loadOf, runCallOf, roundCallOf, judgeCallOf}
 use Rattle.demands.specs.Lists.{All, none, also}
 use Rattle.demands.specs.Operations.{Op, Write, Read, Pins, Reset, Waits, Grant, Run, Round, SheetWriting, SheetReading, Converting, Scene, scene, before, after, said}

@@ -10,8 +10,8 @@ use lib.ListN.{length}
 use Rattle.logs.specs.Answers.{JudgeGiven, judgedOf}
 use Rattle.am9517_sheet.specs.declared.forms.Form.the-variants.{One, Two}
 use Rattle.am9517_sheet.specs.Sheet.{Stored, sheetWriteOf, sheetReadOf}
-use Rattle.c_am9517.specs.Numbers.{told}
-use Rattle.c_am9517.specs.Host.{lookOf, Left, left, callOf, loadOf, Saved, saved, saveOf, RunLeft, runLeft, runCallOf, RoundLeft, roundLeft, roundCallOf, JudgeLeft, judgeLeft, judgeCallOf}
+use Rattle.c_told.specs.Numbers.{told, Saved, saved, saveOf}
+use Rattle.c_am9517.specs.Host.{lookOf, Left, left, callOf, loadOf, RunLeft, runLeft, runCallOf, RoundLeft, roundLeft, roundCallOf, JudgeLeft, judgeLeft, judgeCallOf}
 use Rattle.demands.specs.Outcomes.{OneOutcome, OneOutcomeOfCalls, OneOutcomeWhereAsked}
 
 -- two values that both equal a third
@@ -84,6 +84,13 @@ one-outcome =
       recordBytes = record { free = λ κs a. tt; single = λ κs a x y l l' p q. (same p q, refl) };
       recordIn = record { free = λ κs a. tt; single = λ κs a x y l l' p q. (same p q, refl) };
       nextRecord = record { free = λ κs a. tt; single = λ κs a x y l l' p q. (same p q, refl) };
+      version = record { free = λ κs a. tt; single = λ κs a x y l l' p q. (same p q, refl) };
+      wide = record { free = λ κs a. tt; single = λ κs a x y l l' p q. (same (p .0) (q .0), refl) };
+      editionByte = record { free = λ κs a. tt; single = λ κs a x y l l' p q. (same p q, refl) };
+      toldOf = record { free = λ κs a. tt; single = λ κs a x y l l' p q. (same p q, refl) };
+      sheetNumber = record { free = λ κs a. tt; single = λ κs a x y l l' p q. (same p q, refl) };
+      roundPair = record { free = λ κs a. tt; single = λ κs a x y l l' p q. (same p q, refl) };
+      runToldOf = record { free = λ κs a. tt; single = λ κs a x y l l' p q. (same p q, refl) };
       cVersion = record { free = λ κs a. tt; single = λ κs a x y l l' p q. (same p q, refl) };
       cFresh = record { free = λ κs a. tt; single = λ κs a x y l l' p q. (same p q, refl) };
       cForward = record { free = λ κs a. tt; single = λ κs a x y l l' p q. (ap (λ (g : Saved). g .refusal) (same p q), ap (λ (g : Saved). (tt, (g .sheet, tt))) (same p q)) };

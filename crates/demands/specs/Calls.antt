@@ -24,9 +24,9 @@ use Rattle.am9517_sheet.specs.Sheet.{sheetWriteGrounds, sheetReadGrounds, sheet
 use Rattle.am9517_sheet.specs.Form.{other}
 use Rattle.am9517_sheet.specs.Convert.{convertGrounds, convertOf}
 use Rattle.logs.specs.Answers.{judgedOf}
-use Rattle.c_am9517.specs.declared.Told.{Told}
-use Rattle.c_am9517.specs.Numbers.{editionByte, told}
-use Rattle.c_am9517.specs.Host.{lookGrounds, lookOf, Left, callOf, loadOf, Saved, saveOf, RunLeft, runCallOf, RoundLeft, roundCallOf, JudgeLeft, judgeCallOf}
+use Rattle.c_told.specs.declared.Told.{Told}
+use Rattle.c_told.specs.Numbers.{editionByte, told, Saved, saveOf}
+use Rattle.c_am9517.specs.Host.{lookGrounds, lookOf, Left, callOf, loadOf, RunLeft, runCallOf, RoundLeft, roundCallOf, JudgeLeft, judgeCallOf}
 use Rattle.demands.specs.Lists.{All}
 use Rattle.demands.specs.Operations.{Scene, scene}
 use Rattle.demands.specs.Refusals.{First}

@@ -19,8 +19,8 @@ pub record Owner : Type 2 where
   -- Demand 1: a refusal says its number, exactly when its condition is the first that holds, and changes nothing; of the C calls, too.
   pub refusals : Demand1
   pub refusalsInC : Demand1OfCalls
-  -- Demand 2: each public function of words, am9517, am9517_service, am9517_sheet, logs and c_am9517 admits one outcome only; those public by need,
-  -- where they get what they ask for.
+  -- Demand 2: each public function of words, am9517, am9517_service, am9517_sheet, logs, c_told and c_am9517 admits one outcome only; those
+  -- public by need, where they get what they ask for.
   pub oneOutcome : OneOutcome
   pub oneOutcomeInC : OneOutcomeOfCalls
   pub oneOutcomeWhereAsked : OneOutcomeWhereAsked

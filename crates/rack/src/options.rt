@@ -150,7 +150,7 @@ pub(crate) fn read_options() -> Options {
 }
 
 pub(crate) fn say_version() {
-    io::write_all(STDOUT_FILENO, b"rack 4.2.0\n");
+    io::write_all(STDOUT_FILENO, b"rack 4.3.0\n");
 }
 
 pub(crate) fn say_help() {

@@ -1,5 +1,5 @@
 use mathlib.Core.Path.{ap}
-use Rattle.c_am9517.specs.Host.{saveOf}
+use Rattle.c_told.specs.Numbers.{saveOf}
 use borrow.Author.Needs.{needs}
 use Rattle.c_am9517.proofs.am9517_back.Statement.{statement}
 use Rattle.c_am9517.proofs.am9517_back.Tie as tie

@@ -37,11 +37,11 @@ use denote.Exit.{yes}
 use Rattle.am9517.specs.Serving.{entitled, setOf}
 use Rattle.c_am9517.specs.Host.{lookOf}
 use Rattle.am9517.specs.declared.Controller.{Controller}
-use Rattle.c_am9517.specs.declared.Told.{Told}
+use Rattle.c_told.specs.declared.Told.{Told}
 use Rattle.am9517.proofs.Controller as T
 use Rattle.am9517.proofs.Controller.Laws as T′
-use Rattle.c_am9517.proofs.Told as An
-use Rattle.c_am9517.proofs.Told.Laws as An′
+use Rattle.c_told.proofs.Told as An
+use Rattle.c_told.proofs.Told.Laws as An′
 use Rattle.c_am9517.proofs.calls.entitled as callee
 use Rattle.c_am9517.proofs.calls.entitled.Symbol as symbol
 use Rattle.c_am9517.proofs.calls.entitled.Met as callee-thm

@@ -42,7 +42,7 @@ use denote.Triple.Walked.{says, Stays, stay-ref, stay-none-slice, walkOf, goes-r
 use denote.Exit.{yes}
 use Rattle.am9517_sheet.specs.declared.forms.Form.the-variants.{One}
 use Rattle.am9517_sheet.specs.Sheet.{sheetReadOf}
-use Rattle.c_am9517.specs.Numbers.{told}
+use Rattle.c_told.specs.Numbers.{told}
 use Rattle.c_am9517.specs.Host.{left, loadOf}
 use Rattle.am9517.specs.declared.Controller.{Controller}
 use Rattle.c_am9517.specs.declared.calls.Done.{Done}

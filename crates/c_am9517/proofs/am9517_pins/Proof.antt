@@ -39,7 +39,7 @@ use denote.Triple.Table.{entered, cited}
 use denote.Triple.Walked.{says, Stays, stay-ref, stay-none, walkOf, goes-ref, goes-none, Walks, ends-at, walked, walk-meets}
 use denote.Exit.{yes}
 use Rattle.am9517.specs.Answers.{pinsOf}
-use Rattle.c_am9517.specs.Numbers.{told}
+use Rattle.c_told.specs.Numbers.{told}
 use Rattle.c_am9517.specs.Host.{left, callOf}
 use Rattle.am9517.specs.declared.Controller.{Controller}
 use Rattle.c_am9517.specs.declared.calls.Done.{Done}

@@ -46,8 +46,8 @@ use Rattle.am9517.proofs.Controller as T
 use Rattle.am9517.proofs.Controller.Laws as T′
 use Rattle.c_am9517.proofs.calls.Answered as S
 use Rattle.c_am9517.proofs.calls.Answered.Laws as S′
-use Rattle.c_am9517.proofs.Told as An
-use Rattle.c_am9517.proofs.Told.Laws as An′
+use Rattle.c_told.proofs.Told as An
+use Rattle.c_told.proofs.Told.Laws as An′
 use Rattle.c_am9517.proofs.calls.read as callee
 use Rattle.c_am9517.proofs.calls.read.Symbol as symbol
 use Rattle.c_am9517.proofs.calls.read.Met as callee-thm

@@ -38,7 +38,7 @@ use denote.Triple.Spec.{Meets, tripleOf}
 use denote.Triple.Table.{entered, cited}
 use denote.Triple.Walked.{says, Stays, stay-ref, walkOf, goes-ref, Walks, ends-at, walked, walk-meets}
 use Rattle.am9517.specs.Answers.{resetOf}
-use Rattle.c_am9517.specs.Numbers.{told}
+use Rattle.c_told.specs.Numbers.{told}
 use Rattle.c_am9517.specs.Host.{left, callOf}
 use Rattle.am9517.specs.declared.Controller.{Controller}
 use Rattle.c_am9517.specs.declared.calls.Done.{Done}

@@ -48,8 +48,8 @@ use Rattle.am9517.proofs.Controller as T
 use Rattle.am9517.proofs.Controller.Laws as T′
 use Rattle.c_am9517.proofs.calls.RunDone as S
 use Rattle.c_am9517.proofs.calls.RunDone.Laws as S′
-use Rattle.c_am9517.proofs.RunTold as An
-use Rattle.c_am9517.proofs.RunTold.Laws as An′
+use Rattle.c_told.proofs.RunTold as An
+use Rattle.c_told.proofs.RunTold.Laws as An′
 use Rattle.c_am9517.proofs.calls.run as callee
 use Rattle.c_am9517.proofs.calls.run.Symbol as symbol
 use Rattle.c_am9517.proofs.calls.run.Met as callee-thm

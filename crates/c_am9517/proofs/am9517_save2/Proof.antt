@@ -41,7 +41,7 @@ use denote.Triple.Walked.{says, Stays, stay-none-ref, gave-slice, walkOf, goes-n
 use denote.Exit.{yes}
 use Rattle.am9517_sheet.specs.declared.forms.Form.the-variants.{Two}
 use Rattle.am9517_sheet.specs.Sheet.{sheetWriteOf}
-use Rattle.c_am9517.specs.Host.{saved, saveOf}
+use Rattle.c_told.specs.Numbers.{saved, saveOf}
 use Rattle.am9517.specs.declared.Controller.{Controller}
 use Rattle.am9517.proofs.Controller as T
 use Rattle.am9517.proofs.Controller.Laws as T′

@@ -1,5 +1,5 @@
 use mathlib.Core.Path.{ap}
-use Rattle.c_am9517.specs.declared.Told.{Told}
+use Rattle.c_told.specs.declared.Told.{Told}
 use borrow.Author.Needs.{needs}
 use Rattle.c_am9517.proofs.calls.check.Statement.{statement}
 use Rattle.c_am9517.proofs.calls.check.Tie as tie

@@ -1,6 +1,6 @@
 use borrow.Author.Needs.{needs}
-use Rattle.c_am9517.proofs.numbers.run_pair.Statement.{statement}
-use Rattle.c_am9517.proofs.numbers.run_pair.Tie as tie
+use Rattle.c_told.proofs.run_pair.Statement.{statement}
+use Rattle.c_told.proofs.run_pair.Tie as tie
 
 returns : tie.Need-returns
 returns c = rw (c .before .before .answer .given .1, c .reason-of .ensures)

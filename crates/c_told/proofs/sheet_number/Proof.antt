@@ -1,6 +1,6 @@
 use borrow.Author.Needs.{needs}
-use Rattle.c_am9517.proofs.numbers.sheet_number.Statement.{statement}
-use Rattle.c_am9517.proofs.numbers.sheet_number.Tie as tie
+use Rattle.c_told.proofs.sheet_number.Statement.{statement}
+use Rattle.c_told.proofs.sheet_number.Tie as tie
 
 returns-2 : tie.Need-returns-2
 returns-2 c = rw (c .before .before .answer .given .1, c .wide .ensures .0)

@@ -1,6 +1,6 @@
 use borrow.Author.Needs.{needs}
-use Rattle.c_am9517.proofs.numbers.round_pair.Statement.{statement}
-use Rattle.c_am9517.proofs.numbers.round_pair.Tie as tie
+use Rattle.c_told.proofs.round_pair.Statement.{statement}
+use Rattle.c_told.proofs.round_pair.Tie as tie
 
 returns-3 : tie.Need-returns-3
 returns-3 c = rw (c .before .before .answer .given .1, c .reason-of .ensures)

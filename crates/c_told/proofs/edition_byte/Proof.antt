@@ -1,9 +1,9 @@
 use borrow.Author.Tests.{lt-ltb, le-ltb}
 use borrow.Author.Needs.{needs}
 use Rattle.words.specs.Choice.{when}
-use Rattle.c_am9517.specs.Numbers.{editionByte}
-use Rattle.c_am9517.proofs.numbers.edition_byte.Statement.{statement}
-use Rattle.c_am9517.proofs.numbers.edition_byte.Tie as tie
+use Rattle.c_told.specs.Numbers.{editionByte}
+use Rattle.c_told.proofs.edition_byte.Statement.{statement}
+use Rattle.c_told.proofs.edition_byte.Tie as tie
 
 returns : tie.Need-returns
 unfolding editionByte when

@@ -1,0 +1,2 @@
+-- What an answer has no value for.
+pub mod NumberLaws
