@@ -1,0 +1,2 @@
+-- What an operation on the board says that has no value.
+pub mod CallLaws
