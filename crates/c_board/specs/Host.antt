@@ -9,20 +9,24 @@ use Rattle.words.specs.Choice.{when, _and_}
 use Rattle.words.specs.Grounds.{Ground, _if_}
 use Rattle.am9517.specs.Refusals.{refusal}
 use Rattle.am9517.specs.Serving.{entitled, setOf}
+use Rattle.am9517_service.specs.RoundAnswers.{roundRefusalNumber}
 use Rattle.am9517_sheet.specs.declared.forms.Form.{Form}
 use Rattle.am9517_sheet.specs.Sheet.{sheetRefusalNumber}
 use Rattle.board.specs.declared.Board.{Board}
 use Rattle.board.specs.declared.Chip.{Chip}
 use Rattle.board.specs.declared.Chip.the-variants.{First, Second}
 use Rattle.board.specs.declared.BoardOutcome.{BoardOutcome}
+use Rattle.board.specs.declared.BoardRounded.{BoardRounded}
 use Rattle.board.specs.declared.BoardSheetRead.{BoardSheetRead}
 use Rattle.board.specs.Ranges.{pairValid}
 use Rattle.board.specs.Answers.{boardWaitsOf}
 use Rattle.board.specs.Runs.{BoardGiven}
+use Rattle.board.specs.RoundAnswers.{BoardRoundGiven}
 use Rattle.board.specs.Sheets.{boardSheetWriteOf, boardSheetReadOf}
 use Rattle.c_told.specs.declared.Told.{Told}
 use Rattle.c_told.specs.declared.RunTold.{RunTold}
-use Rattle.c_told.specs.Numbers.{told, toldOf, runToldOf, Saved, saved, saveOf}
+use Rattle.c_board.specs.declared.RoundTold.{RoundTold}
+use Rattle.c_told.specs.Numbers.{told, toldOf, runToldOf, roundReasonOf, Saved, saved, saveOf}
 
 -- a look is refused by 1, where the pair breaks a range, and shows nothing then
 abbrev pub lookGrounds : Board → List (Ground ℕ)
@@ -80,3 +84,28 @@ runLeft b t m r = record { board = b; said = t; memory = m; room = r }
 
 abbrev pub runCallOf : BoardGiven → RunLeft
 runCallOf g = runLeft (g .ran .board) (runToldOf (g .ran .answer) (g .ran .counts)) (g .memory) (g .room)
+
+-- A round likewise: services begun per channel of the eight.
+abbrev pub roundToldOf : BoardRounded → RoundTold
+roundToldOf r =
+    record {
+      refusal = roundRefusalNumber (r .answer);
+      reason = roundReasonOf (r .answer);
+      services = r .services;
+      transfers = r .totals .transfers;
+      used = r .totals .used;
+      written = r .totals .written;
+      states = r .totals .states;
+    }
+
+pub record RoundLeft : Type 0 where
+  pub board : Board
+  pub said : RoundTold
+  pub memory : List ℕ
+  pub room : List ℕ
+
+abbrev pub roundLeft : Board → RoundTold → List ℕ → List ℕ → RoundLeft
+roundLeft b t m r = record { board = b; said = t; memory = m; room = r }
+
+abbrev pub roundCallOf : BoardRoundGiven → RoundLeft
+roundCallOf g = roundLeft (g .rounded .board) (roundToldOf (g .rounded)) (g .memory) (g .room)

@@ -1,10 +1,13 @@
 // What each call does with a board by value: the next board, and the answer in numbers.
+use crate::RoundTold;
 use am9517_sheet::Form;
 use board::Board;
 use board::BoardOutcome;
+use board::BoardRounded;
 use board::Chip;
 use c_told::RunTold;
 use c_told::Told;
+use c_told::round_pair;
 use c_told::run_told_of;
 use c_told::sheet_number;
 use c_told::told_of;
@@ -14,8 +17,9 @@ ghost use Rattle.am9517.specs.Answers.{refusalNumber};
 ghost use Rattle.am9517_sheet.specs.declared.forms.Form.the-variants.{One, Two};
 ghost use Rattle.board.specs.Answers.{boardWriteOf, boardReadOf, boardPinsOf, boardResetOf, boardGrantOf};
 ghost use Rattle.board.specs.Runs.{boardRanOf};
+ghost use Rattle.board.specs.RoundAnswers.{boardRoundedOf};
 ghost use Rattle.c_told.specs.Numbers.{told, saved};
-ghost use Rattle.c_board.specs.Host.{lookOf, entitledOf, left, callOf, namesNone, chipOf, waitsCallOf, saveCallOf, loadCallOf, runLeft, runCallOf};
+ghost use Rattle.c_board.specs.Host.{lookOf, entitledOf, left, callOf, namesNone, chipOf, waitsCallOf, saveCallOf, loadCallOf, runLeft, runCallOf, roundToldOf, roundLeft, roundCallOf};
 
 // The next board, and a refusal's number, 0 for none.
 pub struct Done {
@@ -32,6 +36,11 @@ pub struct Answered {
 pub struct RunDone {
     pub board: Board,
     pub said: RunTold,
+}
+
+pub struct RoundDone {
+    pub board: Board,
+    pub said: RoundTold,
 }
 
 fn done_of(outcome: BoardOutcome) -> Done
@@ -53,6 +62,23 @@ fn answered_of(outcome: BoardOutcome) -> Answered
     let answer = outcome.answer;
     let said = told_of(answer);
     Answered { board, said }
+}
+
+fn round_told_of(rounded: BoardRounded) -> RoundTold
+    ensures { λ r. ⌜ r ≡ roundToldOf rounded ⌝ }
+{
+    let answer = rounded.answer;
+    let pair = round_pair(answer);
+    let services = rounded.services;
+    RoundTold {
+        refusal: pair.refusal,
+        reason: pair.reason,
+        services,
+        transfers: rounded.totals.transfers,
+        used: rounded.totals.used,
+        written: rounded.totals.written,
+        states: rounded.totals.states,
+    }
 }
 
 // What is shown of a board, unless the pair is out of its ranges.
@@ -157,6 +183,21 @@ pub(crate) fn run(
     let counts = ran.counts;
     let said = run_told_of(answer, counts);
     RunDone { board: next, said }
+}
+
+pub(crate) fn round(
+    b: Board,
+    memory: &mut [u8],
+    device: &[u8],
+    room: &mut [u8],
+    k: u32,
+) -> RoundDone
+    ensures { λ r. ⌜ roundLeft (r .board) (r .said) (now (memory .exit)) (now (room .exit)) ≡ roundCallOf (boardRoundedOf b (now (memory .entry)) (now (device .entry)) (now (room .entry)) k) ⌝ }
+{
+    let rounded = board::round(b, memory, device, room, k);
+    let next = rounded.board;
+    let said = round_told_of(rounded);
+    RoundDone { board: next, said }
 }
 
 // Sheets: of form 1, and of form 2.

@@ -10,10 +10,23 @@ ghost use Rattle.am9517_sheet.specs.declared.forms.Form.the-variants.{One, Two}
 ghost use Rattle.board.specs.Chips.{freshBoard};
 ghost use Rattle.board.specs.Answers.{boardWriteOf, boardReadOf, boardPinsOf, boardResetOf, boardGrantOf};
 ghost use Rattle.board.specs.Runs.{boardRanOf};
+ghost use Rattle.board.specs.RoundAnswers.{boardRoundedOf};
 ghost use Rattle.c_told.specs.Numbers.{version, editionByte, told, saved};
-ghost use Rattle.c_board.specs.Host.{lookOf, entitledOf, left, callOf, waitsCallOf, saveCallOf, loadCallOf, runLeft, runCallOf};
+ghost use Rattle.c_board.specs.Host.{lookOf, entitledOf, left, callOf, waitsCallOf, saveCallOf, loadCallOf, runLeft, runCallOf, roundLeft, roundCallOf};
 
 mod calls;
+
+// How a round went.
+#[repr(C)]
+pub struct RoundTold {
+    pub refusal: u32,
+    pub reason: u32,
+    pub services: [u32; 8],
+    pub transfers: u64,
+    pub used: usize,
+    pub written: usize,
+    pub states: u64,
+}
 
 // The version of the library that is linked.
 #[no_mangle]
@@ -125,6 +138,22 @@ pub extern "C" fn am9517_board_run(
     ensures { λ r. ⌜ runLeft (now (board .exit)) r (now (memory .exit)) (now (room .exit)) ≡ runCallOf (boardRanOf (now (board .entry)) (now (memory .entry)) (now (device .entry)) (now (room .entry)) limit «eop_at») ⌝ }
 {
     let done = calls::run(*board, memory, device, room, limit, eop_at);
+    *board = done.board;
+    done.said
+}
+
+// A round of up to k services over both controllers.
+#[no_mangle]
+pub extern "C" fn am9517_board_round(
+    board: &mut Board,
+    memory: &mut [u8],
+    device: &[u8],
+    room: &mut [u8],
+    k: u32,
+) -> RoundTold
+    ensures { λ r. ⌜ roundLeft (now (board .exit)) r (now (memory .exit)) (now (room .exit)) ≡ roundCallOf (boardRoundedOf (now (board .entry)) (now (memory .entry)) (now (device .entry)) (now (room .entry)) k) ⌝ }
+{
+    let done = calls::round(*board, memory, device, room, k);
     *board = done.board;
     done.said
 }
