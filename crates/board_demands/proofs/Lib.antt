@@ -5,3 +5,5 @@ pub mod Ranges
 pub mod Turns
 pub mod Fairness
 pub mod Reports
+pub mod Outcomes
+pub mod Board

@@ -6,3 +6,5 @@ pub mod Grants
 pub mod Fairness
 pub mod Alone
 pub mod Cases
+pub mod Outcomes
+pub mod Board

@@ -6,6 +6,7 @@ use Rattle.am9517.specs.Serving.{entitled, setOf, status}
 use Rattle.am9517.specs.Answers.{writeOf, readOf, pinsOf, resetOf, waitsOf, grantOf}
 use Rattle.am9517_service.specs.Answers.{Given, ranOf}
 use Rattle.am9517_service.specs.RoundAnswers.{RoundGiven, roundedOf}
+use Rattle.am9517_service.specs.Turns.{ServedGiven}
 use lib.ListN.{length}
 use Rattle.logs.specs.Answers.{JudgeGiven, judgedOf}
 use Rattle.am9517_sheet.specs.declared.forms.Form.the-variants.{One, Two}
@@ -74,6 +75,8 @@ one-outcome =
       runRefusal = record { free = λ κs a. tt; single = λ κs a x y l l' p q. (same p q, refl) };
       run = record { free = λ κs a. tt; single = λ κs a x y l l' p q. (ap (λ (g : Given). g .ran) (same (p .0) (q .0)), ap (λ (g : Given). (tt, (g .memory, (tt, (g .room, (tt, (tt, tt))))))) (same (p .0) (q .0))) };
       round = record { free = λ κs a. tt; single = λ κs a x y l l' p q. (ap (λ (g : RoundGiven). g .rounded) (same (p .0) (q .0)), ap (λ (g : RoundGiven). (tt, (g .memory, (tt, (g .room, (tt, tt)))))) (same (p .0) (q .0))) };
+      isEnded = record { free = λ κs a. tt; single = λ κs a x y l l' p q. (same p q, refl) };
+      rotaOf = record { free = λ κs a. tt; single = λ κs a x y l l' p q. (same p q, refl) };
       sheetWrite = record { free = λ κs a. tt; single = λ κs a x y l l' p q. (ap (λ (s : Stored). s .answer) (same (p .0) (q .0)), ap (λ (s : Stored). (tt, (tt, (s .bytes, tt)))) (same (p .0) (q .0))) };
       sheetRead = record { free = λ κs a. tt; single = λ κs a x y l l' p q. (same (p .0) (q .0), refl) };
       sheetConvert = record { free = λ κs a. tt; single = λ κs a x y l l' p q. (ap (λ (s : Stored). s .answer) (same (p .0) (q .0)), ap (λ (s : Stored). (tt, (tt, (s .bytes, tt)))) (same (p .0) (q .0))) };
@@ -222,4 +225,6 @@ one-outcome-where-asked =
       load = λ w. record { single = λ κs a h x y l l' p q. (refl, ap (λ (m : List ℕ). (tt, (tt, (tt, (m, (tt, tt)))))) (same (p w (h .1)) (q w (h .1)))) };
       carry = record { single = λ κs a h x y l l' p q. (refl, ap (λ (m : List ℕ). (m, (tt, (tt, (tt, (tt, (tt, tt))))))) (same p q)) };
       fill = record { single = λ κs a h x y l l' p q. (refl, ap (λ (m : List ℕ). (m, (tt, (tt, (tt, (tt, tt)))))) (same p q)) };
+      nextOf = record { single = λ κs a h x y l l' p q. (same (p .0) (q .0), refl) };
+      serve = record { single = λ κs a h x y l l' p q. (ap (λ (g : ServedGiven). g .served) (same (p .0) (q .0)), ap (λ (g : ServedGiven). (tt, (tt, (g .memory, (tt, (g .room, tt)))))) (same (p .0) (q .0))) };
     }

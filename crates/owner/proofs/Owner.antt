@@ -8,12 +8,14 @@ use Rattle.demands.proofs.Steps.{steps-over-the-width}
 use Rattle.demands.proofs.Sheets.{round-trips}
 use Rattle.demands.proofs.Rounds.{round-is-calls, spelled-leads, round-stops}
 use Rattle.demands.proofs.Fairness.{demand-3, demand-3-reported, lowest-kept}
+use Rattle.demands.proofs.Services.{stops-as-said}
 use Rattle.requests.proofs.Copies.{copy-loop}
 use Rattle.requests.proofs.Editions.{editions-differ}
 use Rattle.requests.proofs.Waits.{slow-cards}
 use Rattle.requests.proofs.Most.{most-counted}
 use Rattle.requests.proofs.Forms.{sheet-forms}
 use Rattle.requests.proofs.Logs.{logs-judged}
+use Rattle.board_demands.proofs.Board.{board-demands}
 use Rattle.owner.proofs.Cases.{worked-cases, tight}
 
 pub owner : Owner
@@ -32,6 +34,7 @@ owner =
       rounds = round-is-calls;
       roundsAmongOthers = spelled-leads;
       roundStops = round-stops;
+      services = stops-as-said;
       fairness = demand-3;
       fairReports = demand-3-reported;
       lowest = lowest-kept;
@@ -41,5 +44,6 @@ owner =
       most = most-counted;
       sheetForms = sheet-forms;
       logs = logs-judged;
+      board = board-demands;
       tight = tight;
     }

@@ -7,12 +7,14 @@ use Rattle.demands.specs.Steps.{StepsOverTheWidth}
 use Rattle.demands.specs.Sheets.{RoundTrips}
 use Rattle.demands.specs.Rounds.{RoundIsCalls, RoundStops, SpelledLeads}
 use Rattle.demands.specs.Fairness.{Demand3, Demand3Reported, LowestKept}
+use Rattle.demands.specs.Services.{StopsAsSaid}
 use Rattle.requests.specs.Copies.{CopyLoop}
 use Rattle.requests.specs.Editions.{EditionsDiffer}
 use Rattle.requests.specs.Waits.{SlowCards}
 use Rattle.requests.specs.Most.{MostCounted}
 use Rattle.requests.specs.Forms.{SheetForms}
 use Rattle.requests.specs.Logs.{LogsJudged}
+use Rattle.board_demands.specs.Board.{BoardDemands}
 use Rattle.owner.specs.Cases.{WorkedCases, Tight}
 
 pub record Owner : Type 2 where
@@ -36,6 +38,8 @@ pub record Owner : Type 2 where
   pub rounds : RoundIsCalls
   pub roundsAmongOthers : SpelledLeads
   pub roundStops : RoundStops
+  -- A run leaves its service open or over, as its reason says, and memory and room in their size.
+  pub services : StopsAsSaid
   -- Demand 3: under rotation a channel that stays entitled is served fairly; a round reports it so; of a trace only a grant moves the
   -- lowest channel.
   pub fairness : Demand3
@@ -56,5 +60,8 @@ pub record Owner : Type 2 where
   -- Document 02, A8: an honest log is accepted, and what is accepted is the log of the run that it tells of; a wrong one is handed back from the first
   -- record on that is not what the rules do next, with its address error; in parts as in one.
   pub logs : LogsJudged
+  -- Document 02, A9: the demands read for the pair of the board; a channel that contends at each of its grants sees at most seven others first; a
+  -- controller alone on it does what it does without it.
+  pub board : BoardDemands
   -- Demand 3's numbers can't be better.
   pub tight : Tight
