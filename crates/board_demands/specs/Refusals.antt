@@ -1,4 +1,4 @@
--- Demand 1 for the pair: a refusal says its number, exactly when its ground is the first that holds, and changes nothing.
+-- "Demands 1 and 2 read for the pair": demand 1. A refusal says its number, exactly when its ground is the first that holds, and changes nothing.
 use Prim.Native.Nat.{ℕ}
 use mathlib.Core.Path.{_≡_}
 use mathlib.Core.List.{List}
