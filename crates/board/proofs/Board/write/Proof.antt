@@ -2,7 +2,6 @@ use Rattle.board.proofs.OutcomeLaws.{stated, refused-is, carries, acces
 use Rattle.am9517.specs.Refusals.{refusal, writeGrounds}
 use Rattle.am9517.specs.Registers.{afterWrite}
 use Rattle.board.specs.Chips.{own}
-use Rattle.board.proofs.OutcomeLaws.{stated, refused-is, carries, access-refused, access-passed}
 use Rattle.am9517.specs.declared.Answer.the-variants.{Done}
 use mathlib.Core.Path.{refl, _∙_}
 use borrow.Author.Needs.{needs}
