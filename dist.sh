@@ -3,10 +3,10 @@ usage() {
     cat <<'TEXT'
 usage: ./dist.sh [--to FOLDER] [--install]
 
-Proves the crate c_am9517 and the program rack and makes dist/: the C library as a host
-takes it, and the console as a pier runs it, with no toolchain.
+Proves the crates c_am9517 and c_board and the program rack and makes dist/: the C library
+as a host takes it, the board's beside it, and the console as a pier runs it, with no toolchain.
   --to FOLDER  makes FOLDER instead of dist/
-  --install    then installs the library (not the console): headers, archive, shared
+  --install    then installs the libraries (not the console): headers, archives, shared
                library, pkg-config, CMake, manual page. PREFIX says where (/usr/local),
                DESTDIR stands for / when packing. FOLDER/install.sh does the same later,
                and elsewhere, with no toolchain
@@ -77,6 +77,7 @@ major=${version%%.*}
 tools=$(dirname -- "$(dirname -- "$(readlink -f -- "$(rt doc)")")")/on/$(uname -m)/toolchain
 
 rt staticlib c_am9517
+rt staticlib c_board
 rt check rack
 
 # beside its place, under a name that nothing has; what fails leaves the old one as it was
@@ -92,8 +93,9 @@ filled() {
     sed "s/@VERSION@/$version/g; s/@MAJOR@/$major/g" "packaging/$1" > "$new/$2"
 }
 
-cp include/am9517.h include/am9517.hpp "$new/include/"
+cp include/am9517.h include/am9517.hpp include/am9517_board.h "$new/include/"
 cp target/staticlib/libc_am9517.a "$new/lib/libam9517.a"
+cp target/staticlib/libc_board.a "$new/lib/libam9517_board.a"
 # memset is asked of the C library by name; nothing but the calls is shown
 "$tools/bin/ld.lld" -shared -soname "libam9517.so.$major" -z defs -z text -z now -z noexecstack --build-id --version-script packaging/exports.map \
     -o "$new/lib/libam9517.so.$version" --whole-archive "$new/lib/libam9517.a" --no-whole-archive "$tools/lib/libc.so.6"
@@ -101,10 +103,12 @@ chmod 755 "$new/lib/libam9517.so.$version"
 ln -s "libam9517.so.$version" "$new/lib/libam9517.so.$major"
 ln -s "libam9517.so.$major" "$new/lib/libam9517.so"
 filled am9517.pc lib/pkgconfig/am9517.pc
+filled am9517_board.pc lib/pkgconfig/am9517_board.pc
 filled am9517Config.cmake lib/cmake/am9517/am9517Config.cmake
 filled am9517ConfigVersion.cmake lib/cmake/am9517/am9517ConfigVersion.cmake
 cp docs/am9517.3 "$new/share/man/man3/"
-cp examples/host.c examples/host.cpp examples/host.out examples/am9517.py examples/rack_emulator.c examples/rack_emulator.out "$new/examples/"
+cp examples/host.c examples/host.cpp examples/host.out examples/am9517.py examples/rack_emulator.c examples/rack_emulator.out \
+    examples/rack_board.c examples/rack_board.out "$new/examples/"
 filled install.sh install.sh
 chmod 755 "$new/install.sh"
 filled README README

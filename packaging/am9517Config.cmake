@@ -1,5 +1,5 @@
-# find_package(am9517 4.2 REQUIRED) gives the targets am9517::am9517 (the archive) and am9517::shared (the shared library).
-# Both bring the folder of am9517.h and am9517.hpp. The package may be moved: all is found from this file's own place.
+# find_package(am9517 4.3 REQUIRED) gives the targets am9517::am9517 (the archive), am9517::shared (the shared library) and
+# am9517::board (the board's archive). Each brings the folder of am9517.h, am9517.hpp and am9517_board.h. The package may be moved: all is found from this file's own place.
 
 if((CMAKE_SYSTEM_NAME AND NOT CMAKE_SYSTEM_NAME STREQUAL "Linux") OR
    (CMAKE_SYSTEM_PROCESSOR AND NOT CMAKE_SYSTEM_PROCESSOR MATCHES "^(x86_64|amd64|AMD64)$"))
@@ -14,6 +14,13 @@ if(NOT TARGET am9517::am9517)
   add_library(am9517::am9517 STATIC IMPORTED)
   set_target_properties(am9517::am9517 PROPERTIES
     IMPORTED_LOCATION "${_am9517_prefix}/lib/libam9517.a"
+    INTERFACE_INCLUDE_DIRECTORIES "${_am9517_prefix}/include")
+endif()
+
+if(NOT TARGET am9517::board)
+  add_library(am9517::board STATIC IMPORTED)
+  set_target_properties(am9517::board PROPERTIES
+    IMPORTED_LOCATION "${_am9517_prefix}/lib/libam9517_board.a"
     INTERFACE_INCLUDE_DIRECTORIES "${_am9517_prefix}/include")
 endif()
 

@@ -3,7 +3,7 @@ usage() {
     cat <<'TEXT'
 usage: [PREFIX=/usr/local] [DESTDIR=FOLDER] ./install.sh
 
-Installs the library that lies beside this script: headers, archive, shared library, the
+Installs the libraries that lie beside this script: headers, archives, shared library, the
 files of pkg-config and CMake, the manual page, README, LICENSE and examples.
   PREFIX   where it is to be found, a whole path; /usr/local where it isn't given
   DESTDIR  a folder that stands for /, for packing: files go to DESTDIR/PREFIX

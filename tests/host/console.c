@@ -5,14 +5,14 @@
  * between guard bytes. After each command what the looking calls say is held to what the operations say of a copy, and a chip in
  * its ranges must come back whole out of its own sheet of either form; an Intel chip or one with waits, which has none of form 1,
  * must be refused by 15, and as an Am9517A without waits come back out of that one's, which converts both ways. An empty log is
- * judged as a run of no transfer is refused, or not. */
+ * judged as a run of no transfer is refused, or not. The board's commands stand in console_board.h. */
 #include <stdio.h>
 #include <stdlib.h>
 #include <string.h>
 
-#include "am9517.h"
+#include "fields.h"
 
-enum { BODY = 48, FULL = 50, ARRAY = 65537, MOST = 70000, LINE = 200002, GUARD = 8 };
+enum { ARRAY = 65537, MOST = 70000, LINE = 200002, GUARD = 8 };
 
 static struct {
     uint8_t front[GUARD];
@@ -72,52 +72,6 @@ static void done(uint32_t number)
 }
 
 /* ---- the chip and what is around it */
-
-/* The twelve fields behind the channels, in the order of the sheet's body. */
-static uint8_t *field(am9517_chip *c, int i)
-{
-    uint8_t *const fields[12] = {&c->command, &c->tc, &c->request, &c->mask, &c->temporary, &c->flip_flop,
-                                 &c->pins, &c->lowest, &c->in_service, &c->serving, &c->latch_full, &c->latch};
-    return fields[i];
-}
-
-static uint16_t *word_of(am9517_channel *c, int i)
-{
-    uint16_t *const fields[4] = {&c->base_address, &c->address, &c->base_count, &c->count};
-    return fields[i];
-}
-
-static void set_body(am9517_chip *c, const uint8_t *body)
-{
-    for (int n = 0; n < 4; n++) {
-        for (int i = 0; i < 4; i++)
-            *word_of(&c->channels[n], i) = (uint16_t)(body[9 * n + 2 * i] + 256 * body[9 * n + 2 * i + 1]);
-        c->channels[n].mode = body[9 * n + 8];
-    }
-    for (int i = 0; i < 12; i++)
-        *field(c, i) = body[36 + i];
-}
-
-static void get_body(am9517_chip *c, uint8_t *body)
-{
-    for (int n = 0; n < 4; n++) {
-        for (int i = 0; i < 4; i++) {
-            body[9 * n + 2 * i] = (uint8_t)(*word_of(&c->channels[n], i) & 255);
-            body[9 * n + 2 * i + 1] = (uint8_t)(*word_of(&c->channels[n], i) >> 8);
-        }
-        body[9 * n + 8] = c->channels[n].mode;
-    }
-    for (int i = 0; i < 12; i++)
-        body[36 + i] = *field(c, i);
-}
-
-/* Edition and waits, then the body. */
-static void get_full(am9517_chip *c, uint8_t *full)
-{
-    full[0] = c->edition;
-    full[1] = c->waits;
-    get_body(c, full + 2);
-}
 
 /* An Intel chip, or one with waits, has no sheet of form 1, and not a byte is written; nor has it one in too few bytes, nor out
  * of its sheet of form 2. */
@@ -344,9 +298,7 @@ static int command_full(void)
 {
     if (!hex(words[1]) || given_size != FULL)
         return 0;
-    chip->edition = given[0];
-    chip->waits = given[1];
-    set_body(chip, given + 2);
+    set_full(chip, given);
     say("ok\n");
     return 1;
 }
@@ -595,8 +547,12 @@ static int command_reset(void)
     return 1;
 }
 
+#include "console_board.h"
+
 static int obey(void)
 {
+    if (count > 0 && words[0][0] == 'b' && words[0][1] == '.')
+        return obey_board();
     if (is("peek", 3))
         return command_show(memory, ARRAY);
     if (is("out", 3))
@@ -643,6 +599,7 @@ static void answer(char *line, size_t n, int is_long)
         say("error\n");
     guard();
     look();
+    look_at_board();
 }
 
 int main(void)
@@ -652,6 +609,7 @@ int main(void)
     int is_long = 0;
     memset(&cell, 0xc3, sizeof cell);
     *chip = am9517_fresh(AM9517_EDITION_AM9517A);
+    begin_board();
     while ((got = fread(part, 1, sizeof part, stdin)) > 0)
         for (size_t i = 0; i < got; i++) {
             if (part[i] == '\n') {
