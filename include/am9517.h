@@ -109,8 +109,10 @@ enum am9517_edition {
 /* Document 01's refusal numbers. */
 enum am9517_refusal {
     AM9517_OK = 0,
-    AM9517_STATE_RANGE = 1,      /* a field of the chip is out of its range */
-    AM9517_NUMBER = 2,           /* register over 15, pins over 15, or more than 4,096 services asked for */
+    AM9517_STATE_RANGE = 1,      /* a field of the chip is out of its range; of a board: of either chip, both in service,
+                                  * or the arbiter's byte over 1 */
+    AM9517_NUMBER = 2,           /* register over 15, pins over 15, or more than 4,096 services asked for; of a board: register
+                                  * over 31, pins over 255, or a chip number over 1 */
     AM9517_IN_SERVICE = 3,       /* register access, waits, grant or round during a service */
     AM9517_REGISTER = 4,         /* read of 9, A, B, C, E or F, or write of E in an Am9517A */
     AM9517_MODE = 5,             /* mode byte with bits 3-2 = 11 and bits 7-6 not 11 */
@@ -337,8 +339,11 @@ static inline const char *am9517_refusal_text(uint32_t refusal)
 {
     switch (refusal) {
     case 0: return "not refused";
-    case 1: return "the state breaks a range of the sheet section";
-    case 2: return "register number over 15, pins over 15, or more than 4,096 services asked for";
+    case 1:
+        return "the state breaks a range of the sheet section; on the board also: both chips in service, an arbiter byte over 1";
+    case 2:
+        return "register number over 15, pins over 15, or more than 4,096 services asked for; on the board: over 31, over 255, "
+               "a chip number over 1";
     case 3: return "register access, waits, grant or round during a service";
     case 4: return "read of 9, A, B, C, E, F, or write of E in an Am9517A";
     case 5: return "mode byte with bits 3-2 = 11 and bits 7-6 not 11";

@@ -217,8 +217,8 @@ pub fn help_refusals(out: &mut [u8], at: usize) -> usize {
     text(
         out,
         at,
-        b" 1  the state breaks a range of the sheet section
- 2  register number over 15, pins over 15, or more than 4,096 services asked for
+        b" 1  the state breaks a range of the sheet section; on the board also: both chips in service, an arbiter byte over 1
+ 2  register number over 15, pins over 15, or more than 4,096 services asked for; on the board: over 31, over 255, a chip number over 1
  3  register access, waits, grant or round during a service
  4  read of 9, A, B, C, E, F, or write of E in an Am9517A
  5  mode byte with bits 3-2 = 11 and bits 7-6 not 11
