@@ -5,6 +5,7 @@
      harness check N      the same of N random works
    A work is a line of numbers, as struct work has them. */
 #include "calls.h"
+#include "boards.h"
 
 int printf(const char *, ...);
 int scanf(const char *, ...);
@@ -71,7 +72,9 @@ static int is_judging(const struct work *w) { return w->family == JUDGE || w->fa
 /* The service of channel 0 is open. */
 static int is_open(const struct work *w) { return w->family == RUN || w->family == C_RUN || is_judging(w); }
 
-static int is_round(const struct work *w) { return w->family == ROUND || w->family == C_ROUND; }
+static int is_round(const struct work *w) { return w->family == ROUND || w->family == C_ROUND || w->family == B_ROUND; }
+
+static int is_board(const struct work *w) { return w->family > C_OVER && w->family < B_OVER; }
 
 /* All lines active and unmasked; for a run and a log the service of channel 0 is open. */
 static void put_state(u8 *sheet, const struct work *w)
@@ -141,6 +144,19 @@ static u64 do_c_work(const struct work *w, u64 times, u8 *sheet)
     return sum;
 }
 
+/* Both chips as the work has them, of the Am9517A's edition; the first is first. The sheet gets the chip granted last, told of by the sum as well. */
+static u64 do_board_work(const struct work *w, u64 times, u8 *sheet)
+{
+    struct given g = {w->reg, w->k, (u8)w->byte, device, memory, room, sheet, 0, LENT, 65536, LENT, 56, 0, 65536, 0, logged, 0};
+    am9517_board start = {am9517_fresh(AM9517_EDITION_AM9517A), am9517_fresh(AM9517_EDITION_AM9517A), 1}, board = start;
+    am9517_load(&start.first, sheet, 56), am9517_load(&start.second, sheet, 56);
+    u64 sum = do_board_call(w->family, w->side, &start, &board, &g, times);
+    am9517_chip *last = board.granted_last ? &board.second : &board.first, *other = board.granted_last ? &board.first : &board.second;
+    for (int n = 0; n < 4; n++) sum = 31 * sum + other->channels[n].address + 3u * other->channels[n].count + 5u * other->mask + 7u * other->lowest;
+    am9517_save(last, sheet, 56);
+    return sum;
+}
+
 /* ---- one work ---- */
 
 static u64 copy_loop(u8 *to, const u8 *from, usize n, u64 times)
@@ -191,6 +207,7 @@ static u64 do_prepared(const struct work *w, u64 times, u8 *first)
     u64 told = 0;
     int error = 0;
     if (w->family >= C_NOTHING && w->family < C_OVER) return do_c_work(w, times, first);
+    if (is_board(w)) return do_board_work(w, times, first);
     memcpy(second, first, 56);
     if (w->side == PROVED) DO(meter)
     else DO(plain)
@@ -501,12 +518,44 @@ static int call_differs(void)
            memcmp(outcomes[0].second, outcomes[1].second, 58) || memcmp(outcomes[0].memory, outcomes[1].memory, 65537) || memcmp(outcomes[0].room, outcomes[1].room, 8192);
 }
 
+static void put_random_chip(am9517_chip *chip, int open)
+{
+    u8 sheet[56];
+    put_random_state(sheet, open);
+    *chip = am9517_fresh(AM9517_EDITION_AM9517A);
+    am9517_load(chip, sheet, 56);
+    chip->edition = (u8)(random_below(32) ? random_below(2) : random_below(256));
+    chip->waits = (u8)(random_below(2) ? random_below(256) : 0);
+}
+
+/* One random call on a lent board on both sides, one of its chips serving at times, the pair out of its ranges at times; 0 where they agree. */
+static int board_differs(void)
+{
+    int family = B_WRITE + (int)random_below(B_NOTHING - B_WRITE), open = random_below(6) == 0;
+    am9517_board start = {0}, board[2];
+    u64 told[2];
+    put_random_chip(&start.first, open && random_below(2)), put_random_chip(&start.second, open && random_below(2));
+    start.granted_last = (u8)(random_below(32) ? random_below(2) : random_below(256));
+    if (random_below(8) == 0) ((u8 *)&start)[random_below(sizeof start)] ^= (u8)(1u << random_below(8));
+    struct given g = {random_below(8) ? random_below(34) : random_number(), random_below(9) ? random_below(30) : random_near(4096), (u8)random_below(256), device, 0, 0, 0, 0,
+                      random_below(300), random_below(16) ? 65536 : random_near(65536) & 65535, random_below(300), 0, 0, 65536, 0, logged, 0};
+    for (int side = PROVED; side <= PLAIN; side++) {
+        struct outcome *o = &outcomes[side];
+        for (int i = 0; i < 65537; i++) o->memory[i] = (u8)(i * 31 + i / 253);
+        for (int i = 0; i < 8192; i++) o->room[i] = 0xee;
+        g.memory = o->memory, g.room = o->room;
+        told[side] = do_board_call(family, side, &start, &board[side], &g, 1);
+    }
+    return told[0] != told[1] || !same_chip(&board[0].first, &board[1].first) || !same_chip(&board[0].second, &board[1].second) ||
+           board[0].granted_last != board[1].granted_last || memcmp(outcomes[0].memory, outcomes[1].memory, 65537) || memcmp(outcomes[0].room, outcomes[1].room, 8192);
+}
+
 static int check(int n)
 {
     int wrong = 0;
     fill_memory();
     for (int i = 0; i < n; i++)
-        if (i % 2 ? call_differs() : differs()) {
+        if (i % 4 == 3 ? board_differs() : i % 2 ? call_differs() : differs()) {
             printf("work %d differs\n", i);
             wrong++;
         }

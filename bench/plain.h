@@ -113,10 +113,9 @@ static u32 write_refusal(const am9517_chip *c, u32 reg, u8 byte)
     return reg == 11 && mode_refused(byte) ? 5 : 0;
 }
 
-static u32 write_register(am9517_chip *c, u32 reg, u8 byte)
+/* What is written where nothing refuses it. */
+static void store_register(am9517_chip *c, u32 reg, u8 byte)
 {
-    u32 no = write_refusal(c, reg, byte);
-    if (no != 0) return no + 256;
     switch (reg) {
     case 8: c->command = byte; break;
     case 9: c->request = with_bit(c->request, byte & 3, bit(byte, 2)); break;
@@ -128,6 +127,13 @@ static u32 write_register(am9517_chip *c, u32 reg, u8 byte)
     case 15: c->mask = byte & 15; break;
     default: write_port(c, reg, byte);
     }
+}
+
+static u32 write_register(am9517_chip *c, u32 reg, u8 byte)
+{
+    u32 no = write_refusal(c, reg, byte);
+    if (no != 0) return no + 256;
+    store_register(c, reg, byte);
     return 0;
 }
 
@@ -148,11 +154,8 @@ static u8 read_port(am9517_chip *c, u32 reg)
     return byte;
 }
 
-static u32 read_register(am9517_chip *c, u32 reg)
+static u32 read_free(am9517_chip *c, u32 reg)
 {
-    if (!valid(c)) return 257;
-    if (reg > 15) return 258;
-    if (c->in_service) return 259;
     if (reg < 8) return read_port(c, reg);
     if (reg == 8) {
         u8 byte = status(c);
@@ -160,6 +163,14 @@ static u32 read_register(am9517_chip *c, u32 reg)
         return byte;
     }
     return reg == 13 ? c->temporary : 260;
+}
+
+static u32 read_register(am9517_chip *c, u32 reg)
+{
+    if (!valid(c)) return 257;
+    if (reg > 15) return 258;
+    if (c->in_service) return 259;
+    return read_free(c, reg);
 }
 
 /* ---- a run of one service ---- */
