@@ -21,7 +21,7 @@ unfoldable pub boardOutcome : ℕ → Board → Board → Answer → BoardOutcom
 boardOutcome n was next told =
     record { board = when (eqb n 0) next was; answer = when (eqb n 0) told (Refused n) }
 
--- a register access is that of the controller that bit 4 picks
+-- a register access is that of the controller that bit 4 picks; the other and the arbiter stay, at a master clear, too
 abbrev pub boardWriteOf : Board → ℕ → ℕ → BoardOutcome
 boardWriteOf b r x =
     let which = addressed r in

@@ -18,7 +18,7 @@ wants c = not (nobody c)
 abbrev pub notLast : ℕ → Chip
 notLast last = when (eqb last (numberOf First)) Second First
 
--- who gets the bus: of both that want it the one not granted last, else the one that wants it
+-- who gets the bus: of both that want it the one not granted last, else the one that wants it; where neither does nobody asks
 unfoldable pub winnerOf : ℕ → Bool → Bool → Chip
 winnerOf last first second = when first (when second (notLast last) First) Second
 

@@ -14,6 +14,6 @@ bothServe b = busy (b .first) && busy (b .second)
 unfoldable pub pairValid : Board → Bool
 pairValid b = valid (b .first) and valid (b .second) and leb (b .«granted_last») 1 and not (bothServe b)
 
--- "one service at a time": one of the two is in service
+-- "during it": one of the two is in service
 abbrev pub serves : Board → Bool
 serves b = busy (b .first) || busy (b .second)

@@ -31,10 +31,11 @@ boardPinsGrounds b p = 1 if not (pairValid b) ∷ 2 if ltb 255 p ∷ []
 abbrev pub boardResetGrounds : Board → List (Ground ℕ)
 boardResetGrounds b = 1 if not (pairValid b) ∷ []
 
--- the call for a chip's wait states, "refusals 1, 3": likewise 1 and 3 of the board, and behind them the chip's own, of which none is left
+-- what asks that neither serves, but no number: 1 and 3 of the board, and what stands behind them
 abbrev pub idleGrounds : Board → List (Ground ℕ) → List (Ground ℕ)
 idleGrounds b further = 1 if not (pairValid b) ∷ 3 if serves b ∷ further
 
+-- the call for a chip's wait states, "refusals 1, 3": behind the board's stand the chip's own, of which none is left
 abbrev pub boardWaitsGrounds : Board → Chip → List (Ground ℕ)
 boardWaitsGrounds b which = idleGrounds b (waitsGrounds (chip b which))
 

@@ -28,7 +28,7 @@ boardCourse b m r services n = record { board = b; memory = m; room = r; service
 abbrev pub boardBeginning : Board → List ℕ → List ℕ → BoardCourse
 boardBeginning b m r = boardCourse b m r (0 ∷ 0 ∷ 0 ∷ 0 ∷ 0 ∷ 0 ∷ 0 ∷ 0 ∷ []) none
 
--- the next service: that of a round of the controller that gets the bus, "grant then run, limit 65,536, no EOP", over the shared memory
+-- the next service, on which the services begun so far have no bearing: that of a round of the controller that gets the bus, "grant then run, limit 65,536, no EOP", over the shared memory
 abbrev pub serviceNext : BoardCourse → List ℕ → Stop
 serviceNext w d = runNext (course (winning (w .board)) (w .memory) (w .room) [] (w .totals)) d
 

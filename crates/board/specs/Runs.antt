@@ -1,4 +1,4 @@
--- A run on the board: "Memory is shared; one service at a time, and a register access, grant or round during it is refusal 3 for either chip."
+-- A run on the board: "Memory is shared; one service at a time"
 use Prim.Native.Nat.{ℕ}
 use mathlib.Core.List.{List}
 use lib.Dec.{eqb}

@@ -29,7 +29,7 @@ impl Board {
         when(!self.valid(), 1, 0)
     }
 
-    // What the board itself refuses of the call for waits.
+    // What the board itself refuses of what asks that neither serves.
     pub(crate) fn idle_refusal(self) -> u8
         ensures { λ r. ⌜ r ≡ refusal (idleGrounds self []) ⌝ }
     {

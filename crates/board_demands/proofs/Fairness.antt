@@ -26,21 +26,22 @@ use Rattle.board.specs.declared.Chip.{Chip}
 use Rattle.board.specs.declared.Chip.the-variants.{First, Second}
 use Rattle.board.specs.Chips.{numberOf, other, chip, withChip, addressed, own, channelOf}
 use Rattle.board.specs.Bus.{winnerOf, winner, winning, winningChannel, quiet, turnedTo, grantedTo}
+use Rattle.board.specs.Ranges.{pairValid, serves}
 use Rattle.board.specs.Refusals.{boardGrantGrounds, boardRoundGrounds}
-use Rattle.board.specs.Answers.{boardOutcome, pinned}
+use Rattle.board.specs.Answers.{boardOutcome, pinned, boardGrantOf}
 use Rattle.board.specs.Runs.{server, BoardGiven, boardRanOf}
 use Rattle.board.specs.Round.{BoardCourse, boardBeginning, serviceNext, withService, afterService, boardClose, boardRoundOf}
 use Rattle.board.specs.RoundAnswers.{boardClosed, boardRoundedOf}
-use Rattle.demands.specs.Lists.{All, also}
+use Rattle.demands.specs.Lists.{All, none, also}
 use Rattle.demands.proofs.Turns.{place}
 use Rattle.demands.proofs.Fairness.{Early, picked-early, lowest-granted, afterWrite-kept, after-read-kept, run-kept}
 use Rattle.words.proofs.ChoiceLaws.{when-both, when-each, both}
 use Rattle.board.proofs.OutcomeLaws.{stated, pair, each, grant-passed, picked-few}
 use Rattle.board_demands.specs.Operations.{BoardOp, Write, Read, Pins, Reset, Waits, Grant, Run, Round, SheetWriting, SheetReading, next}
 use Rattle.board_demands.specs.Grants.{BoardGranted, granted as granted-on, told, roundGrants, made, grants, channels}
-use Rattle.board_demands.specs.Fairness.{Traced, Trace, Contends, BoardFair, BoardDemand3}
+use Rattle.board_demands.specs.Fairness.{Traced, Trace, Contends, BoardFair, BoardDemand3, RoundGrantsAreGrants}
 use Rattle.board_demands.proofs.Ranges.{Stands, round-stands, stands-on, g, bytes, room, ran}
-use Rattle.board_demands.proofs.Turns.{BoardTurns, over, own-turn, other-turn, turns-fair}
+use Rattle.board_demands.proofs.Turns.{BoardTurns, over, own-turn, other-turn, turns-share, turns-turn, turns-lead}
 
 -- the lowest channel of a chip in its ranges is one of four
 lowest-few : (c : Controller) → valid c ≡ true → c .lowest < 4
@@ -151,15 +152,17 @@ module _ (which : Chip) (n : ℕ) (small : n < 4) where
         let x = other-next e in
         let q : picked (chip b (other which)) < 4 = picked-some (chip b (other which)) s in
         let there : g .channel ≡ channelOf (other which) (picked (chip b (other which))) = is ∙ ap (λ (k : Chip). channelOf k (picked (chip b k))) e in
-        other-turn {low = c .lowest} {last = b .«granted_last»} {v = numberOf (other which)} l (other-number which) (λ z. other-channel which (picked (chip b (other which))) n q small (sym there ∙ z)) (turns-from (x .0) (x .1) ts)
+        other-turn {low = c .lowest} {last = b .«granted_last»} {v = numberOf (other which)} l (other-number which) (λ e hd z. other-channel which (picked (chip b (other which))) e q hd (sym there ∙ z)) (turns-from (x .0) (x .1) ts)
 
   turns-linked : {low l : ℕ} (window rest : List BoardGranted) → Linked which low l (window ++ rest) → All (Contends which n) window → BoardTurns w n low l (channels window)
   turns-linked [] rest k h = over
   turns-linked (g ∷ window) rest (link at below is-last most is k) (also h hs) =
       turns-from at is-last (step g h (omega (arith, at, below)) (omega (arith, is-last, most)) is (won (g .before) which (omega (arith, is-last, most)) (some g h (omega (arith, at, below)) (omega (arith, is-last, most)) is)) (turns-linked window rest k hs))
 
-  fair-window : {low l : ℕ} (past window rest : List BoardGranted) → Linked which low l (past ++ (window ++ rest)) → All (Contends which n) window → BoardFair (channelOf which n) (channels window)
-  fair-window [] window rest k h = turns-fair w n small (channels window) (turns-linked window rest k h)
+  fair-window : {low l : ℕ} (past window rest : List BoardGranted) → Linked which low l (past ++ (window ++ rest)) → All (Contends which n) window → BoardFair which n (channels window)
+  fair-window [] window rest k h =
+      let ts = turns-linked window rest k h in
+      record { share = turns-share w n small (channels window) ts; turn = turns-turn w n small (channels window) ts; lead = turns-lead w n small (channels window) ts }
   fair-window (g ∷ past) window rest (link at below is-last most is k) h = fair-window past window rest k h
 
 -- Nothing moves: each lowest channel, and the arbiter.
@@ -316,3 +319,21 @@ linked-of which b (SheetReading form chip bytes ∷ ops) u = unmoved-linked whic
 pub board-demand-3 : BoardDemand3
 board-demand-3 b ops which n past window rest small u same h =
     fair-window which n small past window rest (subst (Linked which (chip b which .lowest) (b .«granted_last»)) same (linked-of which b ops u)) h
+
+-- a grant on an idle board in its ranges is made, and told
+grant-told : (b : Board) → pairValid b ≡ true → serves b ≡ false → quiet b ≡ false → boardGrantOf b .answer ≡ Value (winningChannel b)
+unfolding boardOutcome refusal first when
+grant-told b v i q = simp (v, i, q)
+
+round-granted : (left : ℕ) (d : List ℕ) (w : BoardCourse) → Stands w → All (λ (g : BoardGranted). boardGrantOf (g .before) .answer ≡ Value (g .channel)) (roundGrants left d w)
+unfolding roundGrants first
+round-granted zero d w at = none
+round-granted (suc left) d w at =
+    let P : List BoardGranted → Type 0 = All (λ (g : BoardGranted). boardGrantOf (g .before) .answer ≡ Value (g .channel)) in
+    when-each P (quiet (w .board)) (λ e. none)
+    (λ some. also (grant-told (w .board) (at .range) (at .idle) some) (when-each P (not (isEnded (serviceNext w d .reason))) (λ e. none) (λ e. round-granted left d (afterService w d) (stands-on d w at some (not-false _ e)))))
+
+pub round-grants-are-grants : RoundGrantsAreGrants
+round-grants-are-grants b m d r k =
+    when-each (All (λ (g : BoardGranted). boardGrantOf (g .before) .answer ≡ Value (g .channel))) (eqb (refusal (boardRoundGrounds b m k)) 0)
+    (λ e. round-granted k d (boardBeginning b m r) (round-stands b m r k (eqb-true _ _ e))) (λ e. none)

@@ -42,10 +42,10 @@ use Rattle.demands.specs.Operations as alone
 use Rattle.demands.specs.Refusals.{here, later}
 use Rattle.demands.specs.Refusals as alone-refusals
 use Rattle.demands.specs.Services.{openBehind}
-use Rattle.board_demands.specs.Operations.{BoardOp, Write, Read, Pins, Reset, Waits, Grant, Run, Round, SheetWriting, SheetReading, next, afterAll, said}
+use Rattle.board_demands.specs.Operations.{BoardOp, Write, Read, Pins, Reset, Waits, Grant, Run, Round, SheetWriting, SheetReading, BoardScene, before, after, next, afterAll, said}
 use Rattle.board_demands.specs.Refusals.{grounds}
-use Rattle.board_demands.specs.Ranges.{ReadsSheet, OneAtATime, BoardRangesKept}
-use Rattle.words.proofs.ChoiceLaws.{when-each, when-hit, both-hold, never}
+use Rattle.board_demands.specs.Ranges.{ReadsSheet, BoardRangesKept}
+use Rattle.words.proofs.ChoiceLaws.{when-each, when-hit, both-hold, never, not-true, not-false as always}
 use Rattle.words.proofs.GroundLaws.{passed}
 use Rattle.board.proofs.ChipLaws.{chip-put, chip-other}
 use Rattle.board.proofs.OutcomeLaws.{Pair, pair, each, pins-passed, chip-pins, chip-reset, each-idle, grant-passed, chip-granted, winner-wants}
@@ -294,10 +294,6 @@ kept b (Round m d r k) v h = rounded-valid b v m d r k
 kept b (SheetWriting form which out) v h = v
 kept b (SheetReading form which bytes) v h = reading-valid b v form which bytes (h tt)
 
-kept-all : (b : Board) (ops : List BoardOp) → Valid b → OneAtATime b ops → Valid (afterAll b ops)
-kept-all b [] v h = v
-kept-all b (op ∷ ops) v h = kept-all (next b op) ops (kept b op v (h .0)) (h .1)
-
 -- no ground of 1 holds
 abbrev NotOne : Ground ℕ → Type 0
 NotOne x = x .gives ≡ 1 → x .holds ≡ false
@@ -337,12 +333,85 @@ never-1 b (SheetReading form which bytes) v = not-by-1 (chip b which) (alone.She
 fresh-board : (e f : Edition) → Valid (freshBoard (numberOf e) (numberOf f))
 fresh-board e f = of-pair (freshBoard (numberOf e) (numberOf f)) (record { first = fresh-valid e; second = fresh-valid f; last = omega arith; one = refl })
 
+-- Each chip in its ranges and the arbiter in its own, both in service or not: every operation keeps this.
+record Sound (b : Board) : Type 0 where
+  first : valid (b .first) ≡ true
+  second : valid (b .second) ≡ true
+  last : b .«granted_last» ≤ 1
+
+sound-of : (b : Board) → Valid b → Sound b
+sound-of b v = let p = pair b v in record { first = p .first; second = p .second; last = p .last }
+
+sound-pair : (b : Board) → Sound b → bothServe b ≡ false → Valid b
+sound-pair b s h = of-pair b (record { first = s .first; second = s .second; last = s .last; one = h })
+
+-- while both serve, all is refused by 1 but what asks one chip alone
+both-refused : (b : Board) → bothServe b ≡ true → not (pairValid b) ≡ true
+both-refused b h = ap not (not-true (pairValid b) (λ v. never (sym h ∙ pair b v .one)))
+
+stays : (b : Board) (op : BoardOp) → alone-refusals.First 1 (grounds b op) → after b op ≡ before b op
+stays b op f =
+    let r = board-demand-1 b op in
+    let one : said b op ≡ 1 = r .exactly 1 (λ z. omega arith) .1 f in
+    r .stays (λ z. let q : _≡_ {A = ℕ} 0 1 = sym z ∙ one in absurd (omega arith))
+
+sound-put : (b : Board) (which : Chip) (c : Controller) → Sound b → valid c ≡ true → Sound (withChip b which c)
+sound-put b First c s v = record { first = v; second = s .second; last = s .last }
+sound-put b Second c s v = record { first = s .first; second = v; last = s .last }
+
+each-sound : (b : Board) → Sound b → (which : Chip) → valid (chip b which) ≡ true
+each-sound b s First = s .first
+each-sound b s Second = s .second
+
+-- what refuses by 1 first leaves the board
+left-so : (b : Board) (op : BoardOp) → Sound b → (next b op ≡ b) → Sound (next b op)
+left-so b op s e = rw e s
+
+module _ (b : Board) (s : Sound b) where
+  one-serves : (op : BoardOp) → bothServe b ≡ false → (ReadsSheet op → ⊥) → Sound (next b op)
+  one-serves op h n = sound-of (next b op) (kept b op (sound-pair b s h) (λ z. absurd (n z)))
+
+  sound-kept : (op : BoardOp) (t : Bool) → bothServe b ≡ t → Sound (next b op)
+  sound-kept (SheetWriting form which out) t e = s
+  sound-kept (SheetReading form which bytes) t e = sound-put b which _ s (ranges-kept .kept (chip b which) (alone.SheetReading form bytes) (each-sound b s which))
+  sound-kept (Write r x) false e = one-serves (Write r x) e (λ z. z)
+  sound-kept (Write r x) true e = left-so b (Write r x) s (ap (λ (k : BoardScene). k .board) (stays b (Write r x) (here (both-refused b e) refl)))
+  sound-kept (Read r) false e = one-serves (Read r) e (λ z. z)
+  sound-kept (Read r) true e = left-so b (Read r) s (ap (λ (k : BoardScene). k .board) (stays b (Read r) (here (both-refused b e) refl)))
+  sound-kept (Pins p) false e = one-serves (Pins p) e (λ z. z)
+  sound-kept (Pins p) true e = left-so b (Pins p) s (ap (λ (k : BoardScene). k .board) (stays b (Pins p) (here (both-refused b e) refl)))
+  sound-kept Reset false e = one-serves Reset e (λ z. z)
+  sound-kept Reset true e = left-so b Reset s (ap (λ (k : BoardScene). k .board) (stays b Reset (here (both-refused b e) refl)))
+  sound-kept (Waits which n) false e = one-serves (Waits which n) e (λ z. z)
+  sound-kept (Waits which n) true e = left-so b (Waits which n) s (ap (λ (k : BoardScene). k .board) (stays b (Waits which n) (here (both-refused b e) refl)))
+  sound-kept Grant false e = one-serves Grant e (λ z. z)
+  sound-kept Grant true e = left-so b Grant s (ap (λ (k : BoardScene). k .board) (stays b Grant (here (both-refused b e) refl)))
+  sound-kept (Run m d r limit eop) false e = one-serves (Run m d r limit eop) e (λ z. z)
+  sound-kept (Run m d r limit eop) true e = left-so b (Run m d r limit eop) s (ap (λ (k : BoardScene). k .board) (stays b (Run m d r limit eop) (here (both-refused b e) refl)))
+  sound-kept (Round m d r k) false e = one-serves (Round m d r k) e (λ z. z)
+  sound-kept (Round m d r k) true e = left-so b (Round m d r k) s (ap (λ (x : BoardScene). x .board) (stays b (Round m d r k) (here (both-refused b e) refl)))
+
+sound-all : (b : Board) (ops : List BoardOp) → Sound b → Sound (afterAll b ops)
+sound-all b [] s = s
+sound-all b (op ∷ ops) s = sound-all (next b op) ops (sound-kept b s op (bothServe b) refl)
+
+reads-last : (b : Board) (which : Chip) (c : Controller) → withChip b which c .«granted_last» ≡ b .«granted_last»
+reads-last b First c = refl
+reads-last b Second c = refl
+
+from-fresh : (e f : Edition) (ops : List BoardOp) (op : BoardOp) → said (afterAll (freshBoard (numberOf e) (numberOf f)) ops) op ≡ 1
+    → bothServe (afterAll (freshBoard (numberOf e) (numberOf f)) ops) ≡ true
+from-fresh e f ops op h =
+    let b = afterAll (freshBoard (numberOf e) (numberOf f)) ops in
+    let s : Sound b = sound-all (freshBoard (numberOf e) (numberOf f)) ops (sound-of _ (fresh-board e f)) in
+    always (bothServe b) (λ z. never-1 b op (sound-pair b s z) h)
+
 pub board-ranges-kept : BoardRangesKept
 board-ranges-kept =
     record {
       kept = kept;
       read = λ b form which bytes free.
-          (rw (chip-put b which (alone.next (chip b which) (alone.SheetReading form bytes))) (ranges-kept .read (chip b which) form bytes free), chip-other b which _);
+          (rw (chip-put b which (alone.next (chip b which) (alone.SheetReading form bytes))) (ranges-kept .read (chip b which) form bytes free), chip-other b which _, reads-last b which _);
       fresh = fresh-board;
-      fromFresh = λ e f ops op h. never-1 _ op (kept-all _ ops (fresh-board e f) h);
+      fromFresh = from-fresh;
     }

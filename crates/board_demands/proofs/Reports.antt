@@ -66,6 +66,7 @@ counted n (suc left) d w size =
   where
     kept : length (w .services) ≡ 8 → length (afterService w d .services) ≡ 8
     kept e = grown w d ∙ e
+
     go : (q t : Bool) → quiet (w .board) ≡ q
         → getD (boardRoundOf left d (afterService w d) .course .services) n 0 ≡ getD (afterService w d .services) n 0 + count n (channels (roundGrants left d (afterService w d)))
         → getD (first (boardClose w Quiet if q ∷ []) (first (boardClose (afterService w d) (Stopped (serviceNext w d .reason)) if t ∷ []) (boardRoundOf left d (afterService w d))) .course .services) n 0

@@ -1,7 +1,7 @@
 -- Turns on bare numbers: a channel of one chip between the other channels of its chip, which rotates, and the other chip, which gets the bus
 -- only where this one had it last.
-use Prim.Native.Nat.{ℕ, suc, _+_, _*_, _≤_, _<_}
-use mathlib.Core.Path.{_≡_, refl, _∙_, ap}
+use Prim.Native.Nat.{ℕ, suc, _+_, _*_, _/_, _≤_, _<_}
+use mathlib.Core.Path.{_≡_, refl, sym, ap, _∙_}
 use mathlib.Core.Bool.{Bool, true, false}
 use mathlib.Core.List.{List, [], _∷_, _++_}
 use native.Mathlib.Omega.{arith}
@@ -10,15 +10,14 @@ use lib.ListN.{length}
 use borrow.Author.Tests.{eqb-true, eqb-false, eq-eqb, ne-eqb}
 use Rattle.words.specs.Choice.{when}
 use Rattle.demands.specs.Lists.{count}
-use Rattle.demands.proofs.Turns.{place}
-use Rattle.board_demands.specs.Fairness.{BoardFair}
+use Rattle.demands.proofs.Turns.{place, Turns, over as alone-over, then, Lead, lead-bound}
 
 -- Chip w, whose lowest channel is low, last one granted: its own channel e stands no later than n in its order, and becomes the lowest; or
 -- another's channel is served, which had to wait for w.
 pub data BoardTurns (w n : ℕ) : ℕ → ℕ → List ℕ → Type 0 where
   over : {low last : ℕ} → BoardTurns w n low last []
   own-turn : {low last e : ℕ} {es : List ℕ} → low < 4 → e < 4 → place low e ≤ place low n → BoardTurns w n e w es → BoardTurns w n low last ((4 * w + e) ∷ es)
-  other-turn : {low last v x : ℕ} {es : List ℕ} → last ≡ w → ¬ (v ≡ w) → ¬ (x ≡ 4 * w + n) → BoardTurns w n low v es → BoardTurns w n low last (x ∷ es)
+  other-turn : {low last v x : ℕ} {es : List ℕ} → last ≡ w → ¬ (v ≡ w) → ((d : ℕ) → d < 4 → ¬ (x ≡ 4 * w + d)) → BoardTurns w n low v es → BoardTurns w n low last (x ∷ es)
 
 -- one more if this chip had the bus last
 abbrev turn : ℕ → ℕ → ℕ
@@ -42,6 +41,10 @@ turn-most w last = go (eqb last w)
     go : (t : Bool) → when t 1 0 ≤ 1
     go true = omega arith
     go false = omega arith
+
+count-none : (c : ℕ) → count c [] ≡ 0
+unfolding count
+count-none c = refl
 
 count-same : (c : ℕ) (es : List ℕ) → count c (c ∷ es) ≡ suc (count c es)
 unfolding count when
@@ -75,7 +78,7 @@ module _ (w n : ℕ) (small : n < 4) where
           let falls = place-falls low e n hl he small h other in
           omega (arith, ih, none, falls, turn-own w)
   length-bound (other-turn {low = low} {last = last} {v = v} {x = x} {es = es} el hv hx ts) =
-      omega (arith, length-bound ts, count-other c x es hx, turn-last w last el, turn-other w v hv)
+      omega (arith, length-bound ts, count-other c x es (hx n small), turn-last w last el, turn-other w v hv)
 
   turns-prefix : {low last : ℕ} (some rest : List ℕ) → BoardTurns w n low last (some ++ rest) → BoardTurns w n low last some
   turns-prefix [] rest ts = over
@@ -91,9 +94,35 @@ module _ (w n : ℕ) (small : n < 4) where
   stretch-bound (x ∷ past) some rest (own-turn hl he h ts) = stretch-bound past some rest ts
   stretch-bound (x ∷ past) some rest (other-turn el hv hx ts) = stretch-bound past some rest ts
 
-  pub turns-fair : {low last : ℕ} (es : List ℕ) → BoardTurns w n low last es → BoardFair c es
-  turns-fair {low = low} {last = last} es ts =
-      record {
-        share = omega (arith, length-bound ts, place-most low, turn-most w last);
-        turn = λ past some rest same zero-of. omega (arith, stretch-bound past some rest (rw same at ts));
-      }
+  -- its own chip's channels by themselves: turns of that chip
+  abbrev mine : {low last : ℕ} {es : List ℕ} → BoardTurns w n low last es → List ℕ
+  mine over = []
+  mine (own-turn {e = e} hl he h ts) = e ∷ mine ts
+  mine (other-turn el hv hx ts) = mine ts
+
+  mine-turns : {low last : ℕ} {es : List ℕ} (ts : BoardTurns w n low last es) → Turns n low (mine ts)
+  mine-turns over = alone-over
+  mine-turns (own-turn hl he h ts) = then hl he h (mine-turns ts)
+  mine-turns (other-turn el hv hx ts) = mine-turns ts
+
+  mine-count : (d : ℕ) → d < 4 → {low last : ℕ} {es : List ℕ} (ts : BoardTurns w n low last es) → count (4 * w + d) es ≡ count d (mine ts)
+  mine-count d hd over = count-none (4 * w + d) ∙ sym (count-none d)
+  mine-count d hd (own-turn {e = e} {es = es} hl he h ts) = go (mine-count d hd ts) (eqb e d) refl
+    where
+      go : count (4 * w + d) es ≡ count d (mine ts) → (t : Bool) → eqb e d ≡ t → count (4 * w + d) ((4 * w + e) ∷ es) ≡ count d (e ∷ mine ts)
+      go ih true q =
+          let same : e ≡ d = eqb-true e d q in
+          ap (λ (k : ℕ). count (4 * w + d) ((4 * w + k) ∷ es)) same ∙ count-same (4 * w + d) es ∙ ap suc ih ∙ sym (count-same d (mine ts)) ∙ ap (λ (k : ℕ). count d (k ∷ mine ts)) (sym same)
+      go ih false q =
+          let other : ¬ (e ≡ d) = eqb-false e d q in
+          count-other (4 * w + d) (4 * w + e) es (λ z. other (omega (arith, z))) ∙ ih ∙ sym (count-other d e (mine ts) other)
+  mine-count d hd (other-turn {x = x} {es = es} el hv hx ts) = count-other (4 * w + d) x es (hx d hd) ∙ mine-count d hd ts
+
+  pub turns-share : {low last : ℕ} (es : List ℕ) → BoardTurns w n low last es → length es / 8 ≤ count c es
+  turns-share {low = low} {last = last} es ts = omega (arith, length-bound ts, place-most low, turn-most w last)
+
+  pub turns-turn : {low last : ℕ} (es : List ℕ) → BoardTurns w n low last es → (past some rest : List ℕ) → es ≡ past ++ (some ++ rest) → count c some ≡ 0 → length some ≤ 7
+  turns-turn es ts past some rest same none = omega (arith, stretch-bound past some rest (rw same at ts))
+
+  pub turns-lead : {low last : ℕ} (es : List ℕ) → BoardTurns w n low last es → (d : ℕ) → d < 4 → ¬ (d ≡ n) → count (4 * w + d) es ≤ count c es + 1
+  turns-lead es ts d hd ne = let l = lead-bound n small d ne (mine-turns ts) .most in omega (arith, l, mine-count d hd ts, mine-count n small ts)

@@ -2,7 +2,7 @@
 use Rattle.board_demands.specs.Refusals.{BoardDemand1}
 use Rattle.board_demands.specs.Outcomes.{OneOutcomeOfBoard, OneOutcomeOfBoardCalls}
 use Rattle.board_demands.specs.Ranges.{BoardRangesKept}
-use Rattle.board_demands.specs.Fairness.{BoardDemand3, BoardReports}
+use Rattle.board_demands.specs.Fairness.{BoardDemand3, RoundGrantsAreGrants, BoardReports}
 use Rattle.board_demands.specs.Alone.{Alone}
 use Rattle.board_demands.specs.Cases.{BoardTight}
 
@@ -14,8 +14,10 @@ pub record BoardDemands : Type 2 where
   pub oneOutcomeInC : OneOutcomeOfBoardCalls
   -- Ranges of a pair are kept.
   pub ranges : BoardRangesKept
-  -- Demand 3 on the board: a channel that contends at each grant sees at most seven others first, inside a round too; a round reports its grants;
+  -- Demand 3 on the board: a channel that contends at each grant sees at most seven others first, and gets an eighth of them, inside a round too; the
+  -- grants of a round are grants as `grant` makes them, and it reports them;
   pub fairness : BoardDemand3
+  pub roundGrants : RoundGrantsAreGrants
   pub reports : BoardReports
   -- and no smaller number would do.
   pub tight : BoardTight

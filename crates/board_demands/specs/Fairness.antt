@@ -1,6 +1,6 @@
 -- Demand 3 on the board. "A channel entitled at every board grant, its own controller rotating at each, with no reset, master clear or sheet
 -- reading between, sees at most seven other services first."
-use Prim.Native.Nat.{ℕ, _/_, _≤_, _<_}
+use Prim.Native.Nat.{ℕ, _+_, _/_, _≤_, _<_}
 use mathlib.Core.Path.{_≡_}
 use mathlib.Core.Bool.{true}
 use mathlib.Core.List.{List, [], _∷_, _++_}
@@ -10,6 +10,8 @@ use Rattle.am9517.specs.Serving.{entitled}
 use Rattle.board.specs.declared.Board.{Board}
 use Rattle.board.specs.declared.Chip.{Chip}
 use Rattle.board.specs.Chips.{chip, own, channelOf}
+use Rattle.am9517.specs.declared.Answer.the-variants.{Value}
+use Rattle.board.specs.Answers.{boardGrantOf}
 use Rattle.board.specs.RoundAnswers.{boardRoundedOf}
 use Rattle.demands.specs.Lists.{All, count}
 use Rattle.board_demands.specs.Operations.{BoardOp, Write, Read, Pins, Reset, Waits, Grant, Run, Round, SheetWriting, SheetReading, next, said}
@@ -42,12 +44,14 @@ pub record Contends (which : Chip) (n : ℕ) (g : BoardGranted) : Type 0 where
   pub rotation : rotating (chip (g .before) which .command) ≡ true
   pub entitled : entitled (chip (g .before) which) n ≡ true
 
--- A channel of the eight is served fairly in these grants:
-pub record BoardFair (c : ℕ) (served : List ℕ) : Type 0 where
-  -- of n grants it gets at least n divided by 8, rounded down;
-  pub share : length served / 8 ≤ count c served
-  -- in every stretch of successive grants in which it is not served there are at most seven.
-  pub turn : (past others rest : List ℕ) → served ≡ past ++ (others ++ rest) → count c others ≡ 0 → length others ≤ 7
+-- Channel n of this chip is served fairly in these grants:
+pub record BoardFair (which : Chip) (n : ℕ) (served : List ℕ) : Type 0 where
+  -- of so many grants it gets at least an eighth, rounded down;
+  pub share : length served / 8 ≤ count (channelOf which n) served
+  -- in every stretch of successive grants in which it is not served there are at most seven;
+  pub turn : (past others rest : List ℕ) → served ≡ past ++ (others ++ rest) → count (channelOf which n) others ≡ 0 → length others ≤ 7
+  -- and no other channel of its chip gets more than one above its number. (Of the other chip's channels this isn't so.)
+  pub lead : (d : ℕ) → d < 4 → ¬ (d ≡ n) → count (channelOf which d) served ≤ count (channelOf which n) served + 1
 
 -- Whatever is called on whatever board, accepted or refused, in whatever order, rounds among it, but for an accepted reset, master clear or
 -- sheet reading: in any stretch of successive grants, cut where you like, inside a round too, a channel that contends at each is served fairly.
@@ -58,9 +62,14 @@ BoardDemand3 =
     → Trace b ops
     → grants b ops ≡ past ++ (window ++ rest)
     → All (Contends which n) window
-    → BoardFair (channelOf which n) (channels window)
+    → BoardFair which n (channels window)
 
--- The services that a round reports are its grants, so it reports so.
+-- The grants of a round are grants as `grant` itself makes them: on the board before each service it would be answered so.
+abbrev pub RoundGrantsAreGrants : Type 0
+RoundGrantsAreGrants =
+    (b : Board) (m d r : List ℕ) (k : ℕ) → All (λ (g : BoardGranted). boardGrantOf (g .before) .answer ≡ Value (g .channel)) (made b (Round m d r k))
+
+-- The services that a round reports are its grants.
 abbrev pub BoardReports : Type 0
 BoardReports =
     (b : Board) (m d r : List ℕ) (k n : ℕ) → getD (boardRoundedOf b m d r k .rounded .services) n 0 ≡ count n (channels (made b (Round m d r k)))

@@ -25,19 +25,15 @@ ReadsSheet (Round m d r k) = ⊥
 ReadsSheet (SheetWriting form which out) = ⊥
 ReadsSheet (SheetReading form which bytes) = Unit
 
--- operations called one after the other from board b on, of which no sheet reading puts both in service
-abbrev pub OneAtATime : Board → List BoardOp → Type 0
-OneAtATime b [] = Unit
-OneAtATime b (op ∷ ops) = (ReadsSheet op → bothServe (next b op) ≡ false) × OneAtATime (next b op) ops
-
 pub record BoardRangesKept : Type 0 where
   -- A pair in its ranges is in them after every operation, accepted or refused, unless a sheet reading puts both in service;
   pub kept : (b : Board) (op : BoardOp) → pairValid b ≡ true → (ReadsSheet op → bothServe (next b op) ≡ false) → pairValid (next b op) ≡ true
-  -- a sheet that is read gives a chip in its ranges, whatever it was before, and leaves the other chip.
+  -- a sheet that is read gives a chip in its ranges, whatever it was before, and leaves the other chip and the arbiter.
   pub read : (b : Board) (form : Form) (which : Chip) (bytes : List ℕ) → said b (SheetReading form which bytes) ≡ 0
       → (valid (chip (next b (SheetReading form which bytes)) which) ≡ true) × (chip (next b (SheetReading form which bytes)) (other which) ≡ chip b (other which))
+      × (next b (SheetReading form which bytes) .«granted_last» ≡ b .«granted_last»)
   -- A fresh board of whatever editions is in its ranges;
   pub fresh : (e f : Edition) → pairValid (freshBoard (numberOf e) (numberOf f)) ≡ true
-  -- so one that began so is never refused by 1, whatever was called before, unless a sheet reading put both in service.
-  pub fromFresh : (e f : Edition) (ops : List BoardOp) (op : BoardOp) → OneAtATime (freshBoard (numberOf e) (numberOf f)) ops
-      → ¬ (said (afterAll (freshBoard (numberOf e) (numberOf f)) ops) op ≡ 1)
+  -- so to one that began so 1 is said only while both are in service, as a sheet reading may leave them, and another may mend it.
+  pub fromFresh : (e f : Edition) (ops : List BoardOp) (op : BoardOp) → said (afterAll (freshBoard (numberOf e) (numberOf f)) ops) op ≡ 1
+      → bothServe (afterAll (freshBoard (numberOf e) (numberOf f)) ops) ≡ true

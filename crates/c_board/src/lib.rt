@@ -36,7 +36,7 @@ pub extern "C" fn am9517_board_version() -> u32
     c_told::version()
 }
 
-// A board of fresh chips of these editions; one with a chip of no edition is refused by 1 in every call but a load.
+// A board of fresh chips of these editions; one with a chip of no edition is refused by 1 in every call but a load, and a save of the other chip.
 #[no_mangle]
 pub extern "C" fn am9517_board_fresh(first: u32, second: u32) -> Board
     ensures { λ r. ⌜ r ≡ freshBoard (editionByte first) (editionByte second) ⌝ }
