@@ -7,7 +7,8 @@
  *
  * Link with libam9517.a or libam9517.so.4. C99 or later, C++11 or later (am9517.hpp has a class for C++17). "Document 01"
  * is the rules of this controller, "One Am9517A in software: rules and limits", with what the landed requests A1 to A3, A5
- * and A8 of document 02, "More requests from customers", change in them and add.
+ * and A8 of document 02, "More requests from customers", change in them and add. The board of two chips, A9, is a library of its
+ * own: am9517_board.h.
  *
  * PLATFORM. x86-64 Linux, the System V calling convention, 64-bit pointers: the library is machine code for it and for
  * nothing else. Of the C library it wants memset alone. The shared library names the GNU C library, of any age: with
@@ -68,11 +69,12 @@
  * good pointers, no overlap, no race.
  *
  * VERSIONS. A new major number: a struct, a call or a number has changed, compile again. A new minor number: more calls; what
- * was compiled before runs on. Sheets outlive both: form 1 is document 01's, form 2 document 02's. Version 4.1 had no
- * am9517_judge. Version 4.0 had no form 2: neither am9517_save2 and am9517_load2 nor am9517_forward and am9517_back. Version 3
- * had no wait states: the chip's last byte was padding, and there was no am9517_waits. Version 2 had the one edition: no field
- * for it, a struct of 52 bytes, am9517_fresh(void), no refusal 15. Version 1 kept the state as a sheet and had am9517_copy; its
- * calls took the sheet where these take the chip.
+ * was compiled before runs on. Sheets outlive both: form 1 is document 01's, form 2 document 02's. Version 4.2 had no board
+ * beside it, and its texts of 1 and 2 none of the board's words. Version 4.1 had no am9517_judge. Version 4.0 had no form 2:
+ * neither am9517_save2 and am9517_load2 nor am9517_forward and am9517_back. Version 3 had no wait states: the chip's last
+ * byte was padding, and there was no am9517_waits. Version 2 had the one edition: no field for it, a struct of 52 bytes,
+ * am9517_fresh(void), no refusal 15. Version 1 kept the state as a sheet and had am9517_copy; its calls took the sheet where
+ * these take the chip.
  */
 #ifndef AM9517_H
 #define AM9517_H
