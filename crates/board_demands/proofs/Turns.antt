@@ -10,7 +10,7 @@ use lib.ListN.{length}
 use borrow.Author.Tests.{eqb-true, eqb-false, eq-eqb, ne-eqb}
 use Rattle.words.specs.Choice.{when}
 use Rattle.demands.specs.Lists.{count}
-use Rattle.demands.proofs.Turns.{place, Turns, over as alone-over, then, Lead, lead-bound}
+use Rattle.demands.proofs.Turns.{place, Turns, over as alone-over, then, lead-bound}
 
 -- Chip w, whose lowest channel is low, last one granted: its own channel e stands no later than n in its order, and becomes the lowest; or
 -- another's channel is served, which had to wait for w.

@@ -2,7 +2,7 @@
 use Prim.Native.Nat.{ℕ}
 use mathlib.Core.Path.{_≡_}
 use mathlib.Core.Bool.{true, false}
-use mathlib.Core.List.{List, [], _∷_}
+use mathlib.Core.List.{List}
 use Rattle.am9517.specs.Editions.{numberOf}
 use Rattle.am9517.specs.Ranges.{valid}
 use Rattle.am9517.specs.declared.Edition.{Edition}
