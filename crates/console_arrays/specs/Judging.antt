@@ -21,10 +21,10 @@ verdictText records (Wrong at error) = codes "wrong at=" ++ decimalText at ++ co
 verdictText records (Refused n) = refusedText n
 
 -- "State and lent memory are as the good records made them"; no device bytes are used or written
-unfoldable pub judgeService : List ℕ → ℕ → JudgeGiven → Service
+unfoldable pub judgeService : List ℕ → ℕ → JudgeGiven → Service Controller
 judgeService room records g =
     record {
-      controller = g .judged .controller;
+      next = g .judged .controller;
       used = 0;
       written = 0;
       memory = g .memory;
@@ -33,12 +33,12 @@ judgeService room records g =
     }
 
 -- a log of these bytes, 8 a record
-abbrev pub judgeLog : Controller → List ℕ → List ℕ → List ℕ → Service
+abbrev pub judgeLog : Controller → List ℕ → List ℕ → List ℕ → Service Controller
 judgeLog c m room log = judgeService room (length log / 8) (judgedOf c m log)
 
-abbrev pub judgeReply : Controller → List ℕ → List ℕ → List ℕ → Service
+abbrev pub judgeReply : Controller → List ℕ → List ℕ → List ℕ → Service Controller
 judgeReply c m room digits = when (isBytes digits) (judgeLog c m room (bytesIn digits)) (unserved c m room)
 
 -- the same, where an array of this length has room for the bytes
-abbrev pub judgeWithin : ℕ → Controller → List ℕ → List ℕ → List ℕ → Service
+abbrev pub judgeWithin : ℕ → Controller → List ℕ → List ℕ → List ℕ → Service Controller
 judgeWithin spare c m room digits = when (leb (length digits / 2) spare) (judgeReply c m room digits) (unserved c m room)

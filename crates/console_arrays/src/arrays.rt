@@ -1,4 +1,5 @@
 // The commands on the memory, the device's queue and the device's room.
+use console_chip::answers::WORD;
 use console_chip::answers::bytes_said;
 use console_chip::answers::error;
 use console_chip::answers::ok;
@@ -26,8 +27,6 @@ pub struct Part {
     pub to: usize,
     pub at: usize,
 }
-
-const WORD: u32 = 0xffff_ffff;
 
 // How many bytes of the memory are lent.
 pub fn lend(lent: usize, size: &[u8], out: &mut [u8], at: usize) -> Moved

@@ -1,11 +1,10 @@
 // The commands run and round.
 use am9517::Controller;
 use am9517_service::Counts;
-use am9517_service::Ran;
 use am9517_service::Reason;
 use am9517_service::RoundAnswer;
-use am9517_service::Rounded;
 use am9517_service::RunAnswer;
+use console_chip::answers::WORD;
 use console_chip::answers::error;
 use console_chip::answers::refused;
 use console_text::numbers::Number;
@@ -15,10 +14,9 @@ use console_text::page::text;
 ghost use mathlib.Core.Path.{_≡_};
 ghost use Prim.Native.Nat.{ℕ};
 ghost use mathlib.Core.List.{List, _++_};
-ghost use Rattle.console_text.specs.Text.{page, put};
-ghost use Rattle.console_arrays.specs.Services.{reasonText, countsText, ranText, roundedText, servicesText, served, serving, unserved as Services·unserved, runReply, roundReply};
-
-const WORD: u32 = 0xffff_ffff;
+ghost use Rattle.console_text.specs.Text.{codes, page, put};
+ghost use Rattle.console_text.specs.Numbers.{decimalText};
+ghost use Rattle.console_arrays.specs.Services.{reasonText, countsText, behindCommas, servicesText, runText, roundText, served, serving, unserved as Services·unserved, runReply, roundReply};
 
 // The next controller, the device bytes used and written, and the place behind the answer.
 pub struct Served {
@@ -59,27 +57,43 @@ fn wide(n: u32) -> u64
     n as u64
 }
 
-fn services_said(services: [u32; 4], out: &mut [u8], at: usize) -> usize
-    ensures { λ r. ⌜ page (now (out .exit)) r ≡ put (page (now (out .entry)) at) (servicesText services) ⌝ }
+fn behind_comma(n: u32, out: &mut [u8], at: usize) -> usize
+    ensures { λ r. ⌜ page (now (out .exit)) r ≡ put (page (now (out .entry)) at) (codes "," ++ decimalText n) ⌝ }
 {
-    let next = text(out, at, b" services=");
-    let next = decimal(out, next, wide(services[0]));
-    let next = text(out, next, b",");
-    let next = decimal(out, next, wide(services[1]));
-    let next = text(out, next, b",");
-    let next = decimal(out, next, wide(services[2]));
-    let next = text(out, next, b",");
-    decimal(out, next, wide(services[3]))
+    let next = text(out, at, b",");
+    decimal(out, next, wide(n))
 }
 
-fn run_said(ran: Ran, out: &mut [u8], at: usize) -> usize
-    ensures { λ r. ⌜ page (now (out .exit)) r ≡ put (page (now (out .entry)) at) (ranText ran) ⌝ }
+fn behind_commas(numbers: &[u32], out: &mut [u8], at: usize) -> usize
+    ensures { λ r. ⌜ page (now (out .exit)) r ≡ put (page (now (out .entry)) at) (behindCommas (now (numbers .entry))) ⌝ }
 {
-    let answer = ran.answer;
+    let mut next = at;
+    let mut i = 0;
+    while i < numbers.len() {
+        next = behind_comma(numbers[i], out, next);
+        i += 1;
+    }
+    next
+}
+
+fn services_said(services: &[u32], out: &mut [u8], at: usize) -> usize
+    ensures { λ r. ⌜ page (now (out .exit)) r ≡ put (page (now (out .entry)) at) (servicesText (now (services .entry))) ⌝ }
+{
+    let next = text(out, at, b" services=");
+    if services.len() == 0 {
+        return next;
+    }
+    let next = decimal(out, next, wide(services[0]));
+    behind_commas(&services[1..], out, next)
+}
+
+// What a run did, of a controller or of a board.
+pub fn run_said(answer: RunAnswer, counts: Counts, out: &mut [u8], at: usize) -> usize
+    ensures { λ r. ⌜ page (now (out .exit)) r ≡ put (page (now (out .entry)) at) (runText answer counts) ⌝ }
+{
     match answer {
         RunAnswer::Stopped(why) => {
             let next = reason_said(why, out, at);
-            let counts = ran.counts;
             counts_said(counts, out, next)
         }
         RunAnswer::Refused(n) => refused(out, at, n),
@@ -87,31 +101,35 @@ fn run_said(ran: Ran, out: &mut [u8], at: usize) -> usize
 }
 
 // What a round did, whatever it is called.
-fn round_counts(done: Rounded, out: &mut [u8], at: usize) -> usize
-    ensures { λ r. ⌜ page (now (out .exit)) r ≡ put (page (now (out .entry)) at) (servicesText (done .services) ++ countsText (done .totals)) ⌝ }
+fn round_counts(services: &[u32], totals: Counts, out: &mut [u8], at: usize) -> usize
+    ensures { λ r. ⌜ page (now (out .exit)) r ≡ put (page (now (out .entry)) at) (servicesText (now (services .entry)) ++ countsText totals) ⌝ }
 {
-    let services = done.services;
     let next = services_said(services, out, at);
-    let totals = done.totals;
     counts_said(totals, out, next)
 }
 
-fn round_said(done: Rounded, out: &mut [u8], at: usize) -> usize
-    ensures { λ r. ⌜ page (now (out .exit)) r ≡ put (page (now (out .entry)) at) (roundedText done) ⌝ }
+// What a round did, of a controller or of a board: as many services as it has channels.
+pub fn round_said(
+    answer: RoundAnswer,
+    services: &[u32],
+    totals: Counts,
+    out: &mut [u8],
+    at: usize,
+) -> usize
+    ensures { λ r. ⌜ page (now (out .exit)) r ≡ put (page (now (out .entry)) at) (roundText answer (now (services .entry)) totals) ⌝ }
 {
-    let answer = done.answer;
     match answer {
         RoundAnswer::Done => {
             let next = text(out, at, b"done");
-            round_counts(done, out, next)
+            round_counts(services, totals, out, next)
         }
         RoundAnswer::Quiet => {
             let next = text(out, at, b"quiet");
-            round_counts(done, out, next)
+            round_counts(services, totals, out, next)
         }
         RoundAnswer::Stopped(why) => {
             let next = reason_said(why, out, at);
-            round_counts(done, out, next)
+            round_counts(services, totals, out, next)
         }
         RoundAnswer::Refused(n) => refused(out, at, n),
     }
@@ -147,12 +165,14 @@ pub fn run(
         Number::Value(l) => match meets {
             Number::Value(e) => {
                 let ran = am9517_service::run(c, memory, device, room, l as u64, e as u64);
-                let next = run_said(ran, out, at);
+                let answer = ran.answer;
+                let counts = ran.counts;
+                let next = run_said(answer, counts, out, at);
                 let controller = ran.controller;
                 Served {
                     controller,
-                    used: ran.counts.used,
-                    written: ran.counts.written,
+                    used: counts.used,
+                    written: counts.written,
                     at: next,
                 }
             }
@@ -177,12 +197,15 @@ pub fn go_round(
     match services {
         Number::Value(k) => {
             let done = am9517_service::round(c, memory, device, room, k);
-            let next = round_said(done, out, at);
+            let answer = done.answer;
+            let begun = done.services;
+            let totals = done.totals;
+            let next = round_said(answer, &begun, totals, out, at);
             let controller = done.controller;
             Served {
                 controller,
-                used: done.totals.used,
-                written: done.totals.written,
+                used: totals.used,
+                written: totals.written,
                 at: next,
             }
         }

@@ -1,4 +1,4 @@
--- The answers' texts, and what a command on the controller gives: the next controller and a text.
+-- The answers' texts, and what a command gives: the next controller, or whatever else it is on, and a text.
 use Prim.Native.Nat.{ℕ}
 use mathlib.Core.Bool.{Bool}
 use mathlib.Core.List.{List, [], _∷_, _++_}
@@ -41,19 +41,19 @@ answerText granting Done = okText
 answerText granting (Value v) = valueText granting v
 answerText granting (Refused n) = refusedText n
 
--- What a command on the controller gives.
-pub record Reply : Type 0 where
-  pub controller : Controller
+-- What a command gives: what it is on, as it is next, and the answer.
+pub record Reply (A : Type 0) : Type 0 where
+  pub next : A
   pub text : List ℕ
 
-abbrev pub reply : Controller → List ℕ → Reply
-reply c t = record { controller = c; text = t }
+abbrev pub reply : {A : Type 0} → A → List ℕ → Reply A
+reply a t = record { next = a; text = t }
 
 -- "error, nothing changed"
-abbrev pub errorReply : Controller → Reply
-errorReply c = reply c errorText
+abbrev pub errorReply : {A : Type 0} → A → Reply A
+errorReply a = reply a errorText
 
-abbrev pub outcomeReply : Bool → Outcome → Reply
+abbrev pub outcomeReply : Bool → Outcome → Reply Controller
 outcomeReply granting o = reply (o .controller) (answerText granting (o .answer))
 
 -- by the number that a word says, if it says one that fits its place
@@ -65,13 +65,13 @@ numbered Bad f other = other
 abbrev pub wordMost : ℕ
 wordMost = 4294967295
 
--- What is said of a command: the next controller, and the page with the answer.
-pub record Said : Type 0 where
-  pub controller : Controller
+-- What is said of a command: what it is on, as it is next, and the page with the answer.
+pub record Said (A : Type 0) : Type 0 where
+  pub next : A
   pub page : Page
 
-abbrev pub said : Spoken → List ℕ → Said
-said r out = record { controller = r .controller; page = page out (r .at) }
+abbrev pub said : Spoken → List ℕ → Said Controller
+said r out = record { next = r .controller; page = page out (r .at) }
 
-abbrev pub saying : Page → Reply → Said
-saying p r = record { controller = r .controller; page = put p (r .text) }
+abbrev pub saying : {A : Type 0} → Page → Reply A → Said A
+saying p r = record { next = r .next; page = put p (r .text) }

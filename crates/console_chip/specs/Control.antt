@@ -24,23 +24,23 @@ abbrev pub fullText : Controller → List ℕ
 fullText c = codes "full " ++ hexText (bodyOf Two c)
 
 -- "a fresh state of edition E, 0 (also when E is missing) Am9517A or 1 Intel; E over 1 is `error`"
-abbrev pub freshReply : Controller → List ℕ → Reply
+abbrev pub freshReply : Controller → List ℕ → Reply Controller
 freshReply c edition = numbered (numberOf 1 edition) (λ (e : ℕ). reply (fresh e) okText) (errorReply c)
 
-abbrev pub writeReply : Controller → List ℕ → List ℕ → Reply
+abbrev pub writeReply : Controller → List ℕ → List ℕ → Reply Controller
 writeReply c reg byte =
     numbered (numberOf wordMost reg)
     (λ (r : ℕ). numbered (numberOf 255 byte) (λ (b : ℕ). outcomeReply false (writeOf c r b)) (errorReply c))
     (errorReply c)
 
-abbrev pub readReply : Controller → List ℕ → Reply
+abbrev pub readReply : Controller → List ℕ → Reply Controller
 readReply c reg = numbered (numberOf wordMost reg) (λ (r : ℕ). outcomeReply false (readOf c r)) (errorReply c)
 
-abbrev pub pinsReply : Controller → List ℕ → Reply
+abbrev pub pinsReply : Controller → List ℕ → Reply Controller
 pinsReply c levels = numbered (numberOf wordMost levels) (λ (p : ℕ). outcomeReply false (pinsOf c p)) (errorReply c)
 
 -- "N over 255 is `error`"
-abbrev pub waitsReply : Controller → List ℕ → Reply
+abbrev pub waitsReply : Controller → List ℕ → Reply Controller
 waitsReply c states = numbered (numberOf 255 states) (λ (n : ℕ). outcomeReply false (waitsOf c n)) (errorReply c)
 
 -- the word is a byte string of n bytes
@@ -48,9 +48,9 @@ unfoldable pub saysBytes : List ℕ → ℕ → Bool
 saysBytes digits n = isBytes digits and eqb (length digits) (2 * n)
 
 -- "`state HEX` sets the 48 and leaves edition and waits"
-abbrev pub stateReply : Controller → List ℕ → Reply
+abbrev pub stateReply : Controller → List ℕ → Reply Controller
 stateReply c digits = when (saysBytes digits (bodySize One)) (reply (stateOf Two (c .edition ∷ c .waits ∷ bytesIn digits)) okText) (errorReply c)
 
 -- "the state is now these 50 bytes, taken with no range check"
-abbrev pub fullReply : Controller → List ℕ → Reply
+abbrev pub fullReply : Controller → List ℕ → Reply Controller
 fullReply c digits = when (saysBytes digits (bodySize Two)) (reply (stateOf Two (bytesIn digits)) okText) (errorReply c)

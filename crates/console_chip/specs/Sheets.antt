@@ -31,21 +31,21 @@ abbrev pub convertText : Form → List ℕ → ℕ → List ℕ
 convertText to source n = storedText (convertOf to source) n
 
 -- a reply that wants n bytes of an array of this length, where it has them
-abbrev pub within : ℕ → ℕ → Controller → Reply → Reply
-within spare n c r = when (leb n spare) r (errorReply c)
+abbrev pub within : {A : Type 0} → ℕ → ℕ → A → Reply A → Reply A
+within spare n a r = when (leb n spare) r (errorReply a)
 
 -- "a sheet is written into a slice of N bytes 0xEE (N at most 70,000)"
-abbrev pub sheetReply : Form → Controller → List ℕ → Reply
+abbrev pub sheetReply : Form → Controller → List ℕ → Reply Controller
 sheetReply form c size = numbered (numberOf 70000 size) (λ (n : ℕ). reply c (sheetText form c n)) (errorReply c)
 
-abbrev pub readSheet : SheetRead → Reply
+abbrev pub readSheet : SheetRead → Reply Controller
 readSheet r = reply (r .controller) (sheetSaid (r .answer) okText)
 
 -- "a sheet is read from these bytes"
-abbrev pub loadReply : Form → Controller → List ℕ → Reply
+abbrev pub loadReply : Form → Controller → List ℕ → Reply Controller
 loadReply form c digits = when (isBytes digits) (readSheet (sheetReadOf form c (bytesIn digits))) (errorReply c)
 
 -- "the sheet at the end of HEX is converted into a slice of N bytes 0xEE (N at most 70,000)": to this form
-abbrev pub convertReply : Form → Controller → List ℕ → List ℕ → Reply
+abbrev pub convertReply : Form → Controller → List ℕ → List ℕ → Reply Controller
 convertReply to c digits size =
     when (isBytes digits) (numbered (numberOf 70000 size) (λ (n : ℕ). reply c (convertText to (bytesIn digits) n)) (errorReply c)) (errorReply c)

@@ -10,6 +10,9 @@ ghost use mathlib.Core.Path.{_≡_};
 ghost use Rattle.console_text.specs.Text.{page, put};
 ghost use Rattle.console_chip.specs.Answers.{okText, errorText, refusedText, channelText, byteText, bytesAnswer, valueText, answerText, reply, errorReply, outcomeReply, said, saying};
 
+// The largest register number, place, limit or count that a command takes.
+pub const WORD: u32 = 0xffff_ffff;
+
 // The next controller, and the place behind the answer.
 pub struct Spoken {
     pub controller: Controller,
@@ -66,7 +69,7 @@ pub fn value(out: &mut [u8], at: usize, v: u8, granting: bool) -> usize
     byte_read(out, at, v)
 }
 
-fn answered(out: &mut [u8], at: usize, answer: Answer, granting: bool) -> usize
+pub fn answered(out: &mut [u8], at: usize, answer: Answer, granting: bool) -> usize
     ensures { λ r. ⌜ page (now (out .exit)) r ≡ put (page (now (out .entry)) at) (answerText granting answer) ⌝ }
 {
     match answer {

@@ -1,5 +1,6 @@
 // The commands on the controller.
 use crate::answers::Spoken;
+use crate::answers::WORD;
 use crate::answers::agree;
 use crate::answers::fault;
 use crate::answers::tell;
@@ -35,9 +36,6 @@ const FRONT: usize = 2;
 
 const STATE: usize = BODY - FRONT;
 
-// The largest register number, limit or count that a command takes.
-const WORD: u32 = 0xffff_ffff;
-
 pub fn state(c: Controller, out: &mut [u8], at: usize) -> usize
     ensures { λ r. ⌜ page (now (out .exit)) r ≡ put (page (now (out .entry)) at) (stateText c) ⌝ }
 {
@@ -55,8 +53,8 @@ pub fn full(c: Controller, out: &mut [u8], at: usize) -> usize
     hex(out, next, &body)
 }
 
-fn says_bytes(digits: &[u8], n: usize) -> bool
-    requires { ⌜ n ≤ 50 ⌝ }
+pub fn says_bytes(digits: &[u8], n: usize) -> bool
+    requires { ⌜ n ≤ 101 ⌝ }
     ensures { λ r. ⌜ r ≡ saysBytes (now (digits .entry)) n ⌝ }
 {
     is_bytes(digits) & (digits.len() == 2 * n)
@@ -110,7 +108,7 @@ pub fn make_fresh(out: &mut [u8], at: usize) -> Spoken
     agree(out, at, next)
 }
 
-fn edition_of(e: u32) -> Edition
+pub fn edition_of(e: u32) -> Edition
     requires { ⌜ e ≤ 1 ⌝ }
     ensures { λ r. ⌜ numberOf r ≡ e ⌝ }
 {

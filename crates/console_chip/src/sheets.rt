@@ -20,12 +20,12 @@ ghost use Rattle.console_chip.specs.Answers.{okText, bytesAnswer, said, 
 ghost use Rattle.console_chip.specs.Sheets.{sheetSaid, sheetText, convertText, within, sheetReply, loadReply, convertReply};
 
 // The longest slice that a sheet is written into.
-const SLICE: usize = 70000;
+pub const SLICE: usize = 70000;
 
 // What each byte of that slice is before.
-const BEFORE: u8 = 0xEE;
+pub const BEFORE: u8 = 0xEE;
 
-fn sheet_said(answer: SheetAnswer, bytes: &[u8], out: &mut [u8], at: usize) -> usize
+pub fn sheet_said(answer: SheetAnswer, bytes: &[u8], out: &mut [u8], at: usize) -> usize
     ensures { λ r. ⌜ page (now (out .exit)) r ≡ put (page (now (out .entry)) at) (sheetSaid answer (bytesAnswer (now (bytes .entry)))) ⌝ }
 {
     match answer {
@@ -34,7 +34,7 @@ fn sheet_said(answer: SheetAnswer, bytes: &[u8], out: &mut [u8], at: usize) -> u
     }
 }
 
-fn load_said(answer: SheetAnswer, out: &mut [u8], at: usize) -> usize
+pub fn load_said(answer: SheetAnswer, out: &mut [u8], at: usize) -> usize
     ensures { λ r. ⌜ page (now (out .exit)) r ≡ put (page (now (out .entry)) at) (sheetSaid answer okText) ⌝ }
 {
     match answer {

@@ -10,6 +10,7 @@ use borrow.Author.Tests.{leb-true, le-leb, le-ltb, ltb-false}
 use Rattle.words.specs.Choice.{when}
 use Rattle.words.proofs.ChoiceLaws.{both, both-hold}
 use Rattle.am9517.specs.declared.Controller.{Controller}
+use Rattle.board.specs.declared.Board.{Board}
 use Rattle.console_text.specs.Text.{Page, page, put}
 use Rattle.console_text.specs.Numbers.{numberOf}
 use Rattle.console_text.specs.declared.numbers.Number.{Number}
@@ -18,9 +19,8 @@ use Rattle.console_text.proofs.NumberLaws.{number-fits}
 use Rattle.console_chip.specs.Answers.{Reply, numbered}
 use Rattle.console_arrays.specs.Arrays.{lentOf, held, Changed, Shown, shown, showing, Queued, Roomed}
 use Rattle.console_commands.specs.Holding.{having, freshConsole, said, stands, holds, left, leaving}
-use Rattle.console_commands.specs.Doings.{controlled, lending, remembering, queueing, rooming, further}
-use Rattle.console_commands.specs.Needs.{Standing, queuePart, roomPart, withQueue, withRoom, withLent, withController, afterService}
-use Rattle.console_arrays.specs.declared.runs.Served.{Served}
+use Rattle.console_commands.specs.Doings.{controlled, boarded, lending, remembering, queueing, rooming, further}
+use Rattle.console_commands.specs.Needs.{Standing, queuePart, roomPart, withQueue, withRoom, withLent, withController, withBoard, afterService}
 use Rattle.console_commands.specs.declared.Console.{Console}
 use Rattle.console_commands.specs.declared.holding.Executed.{Executed}
 
@@ -83,11 +83,17 @@ module _ (c : Console) (p : Page) where
         ap (λ (x : Console). record { holding = holds x m q room; page = page out (r .at) }) e
         ∙ ap (λ (x : Page). record { holding = holds c m q room; page = x }) d
 
-    pub controlled-so : (y : Reply) → r .console ≡ withController c (y .controller) → page out (r .at) ≡ put p (y .text)
+    pub controlled-so : (y : Reply Controller) → r .console ≡ withController c (y .next) → page out (r .at) ≡ put p (y .text)
         → left r m q room out ≡ leaving p (controlled (holds c m q room) y)
     controlled-so y e d =
         ap (λ (x : Console). record { holding = holds x m q room; page = page out (r .at) }) e
-        ∙ ap (λ (x : Page). record { holding = holds (withController c (y .controller)) m q room; page = x }) d
+        ∙ ap (λ (x : Page). record { holding = holds (withController c (y .next)) m q room; page = x }) d
+
+    pub boarded-so : (y : Reply Board) → r .console ≡ withBoard c (y .next) → page out (r .at) ≡ put p (y .text)
+        → left r m q room out ≡ leaving p (boarded (holds c m q room) y)
+    boarded-so y e d =
+        ap (λ (x : Console). record { holding = holds x m q room; page = page out (r .at) }) e
+        ∙ ap (λ (x : Page). record { holding = holds (withBoard c (y .next)) m q room; page = x }) d
 
     pub lent-so : (n : ℕ) (t : List ℕ) → r .console ≡ withLent c n → page out (r .at) ≡ put p t
         → left r m q room out ≡ leaving p (lending (holds c m q room) n t)
@@ -106,7 +112,7 @@ module _ (c : Console) (p : Page) where
       → left r m new room out ≡ leaving p (queueing (holds c m q room) y)
   queued-so m q room new out r y e s =
       ap (λ (x : Console). record { holding = holds x m new room; page = page out (r .at) }) e
-      ∙ ap (λ (s : Shown). record { holding = having (c .controller) m (c .lent) (s .array) (take (c .size) room) (c .written); page = s .page }) (s .holds)
+      ∙ ap (λ (s : Shown). record { holding = having (c .controller) (c .board) m (c .lent) (s .array) (take (c .size) room) (c .written); page = s .page }) (s .holds)
 
   -- the room and its write position
   pub roomed-so : (m q room new out : List ℕ) (r : Executed) (y : Changed) (n : ℕ) → r .console ≡ withRoom c r
@@ -114,8 +120,8 @@ module _ (c : Console) (p : Page) where
   roomed-so m q room new out r y n e s =
       let queue = held q (c .start) (c .end) in
       ap (λ (x : Console). record { holding = holds x m q new; page = page out (r .at) }) e
-      ∙ ap (λ (k : ℕ). record { holding = having (c .controller) m (c .lent) queue (take (r .console .size) new) k; page = page out (r .at) }) (s .behind)
-      ∙ ap (λ (s : Shown). record { holding = having (c .controller) m (c .lent) queue (s .array) n; page = s .page }) (s .holds)
+      ∙ ap (λ (k : ℕ). record { holding = having (c .controller) (c .board) m (c .lent) queue (take (r .console .size) new) k; page = page out (r .at) }) (s .behind)
+      ∙ ap (λ (s : Shown). record { holding = having (c .controller) (c .board) m (c .lent) queue (s .array) n; page = s .page }) (s .holds)
 
 -- And it still lies in the arrays.
 module _ (c : Console) (memory queue room : ℕ) (s : Standing c memory queue room) where
@@ -133,16 +139,19 @@ module _ (c : Console) (memory queue room : ℕ) (s : Standing c memory queue ro
     pub controlled-standing : (d : Controller) → next ≡ withController c d → Standing next memory queue room
     controlled-standing d e = parts-standing (withController c d) (s .lent) (s .ordered) (s .queued) (s .placed) (s .roomed) e
 
+    pub boarded-standing : (d : Board) → next ≡ withBoard c d → Standing next memory queue room
+    boarded-standing d e = parts-standing (withBoard c d) (s .lent) (s .ordered) (s .queued) (s .placed) (s .roomed) e
+
     pub lent-standing : (size : List ℕ) → next ≡ withLent c (lentOf (c .lent) size) → Standing next memory queue room
     lent-standing size e =
         let most = lent-most (c .lent) memory size (s .lent) (s .whole) in
         parts-standing (withLent c (lentOf (c .lent) size)) most (s .ordered) (s .queued) (s .placed) (s .roomed) e
 
-    pub served-standing : (r : Served) → next ≡ afterService c r → Standing next memory queue room
-    served-standing r e =
-        let used = further-most (c .start) (r .used) (c .end) (s .ordered) in
-        let written = further-most (c .written) (r .written) (c .size) (s .placed) in
-        parts-standing (afterService c r) (s .lent) used (s .queued) written (s .roomed) e
+    pub served-standing : (k : Controller) (b : Board) (used written : ℕ) → next ≡ afterService c k b used written → Standing next memory queue room
+    served-standing k b used written e =
+        let start = further-most (c .start) used (c .end) (s .ordered) in
+        let place = further-most (c .written) written (c .size) (s .placed) in
+        parts-standing (afterService c k b used written) (s .lent) start (s .queued) place (s .roomed) e
 
   module _ (r : Executed) (new out : List ℕ) (y : Shown) where
     pub queued-standing : length new ≡ queue → r .console ≡ withQueue c r → Queued (queuePart r) new out y → Standing (r .console) memory queue room

@@ -28,13 +28,14 @@ ended-so p s name done m q room out final end e d =
 module _ (line : List ℕ) (h : Held) (p : Page) (shown : List ℕ) where
   pub executed-so : (w : Words) (k : Command) (done : Executed) (m q room out final : List ℕ) (end : ℕ) (standing : Bool) → standing ≡ true → length line ≤ 200000
       → w ≡ wordsIn line → k ≡ commandOf (cut line (w .name)) (w .count)
-      → left done m q room out ≡ leaving p (does shown k (cut line (w .one)) (cut line (w .two)) h)
+      → left done m q room out ≡ leaving p (does shown k (cut line (w .one)) (cut line (w .two)) (cut line (w .three)) h)
       → page final end ≡ put (page out (done .at)) (ending (cut line (w .name)))
       → left (record { console = done .console; at = end }) m q room final ≡ leaving p (executeOf line standing h shown)
   unfolding executeOf lineOf when
   executed-so w k done m q room out final end standing t l e c d n =
       let one = cut line (w .one) in
       let two = cut line (w .two) in
-      let told = d ∙ ap (λ (x : Command). leaving p (does shown x one two h)) c in
-      let words = ended-so p (does shown (commandOf (cut line (w .name)) (w .count)) one two h) (cut line (w .name)) done m q room out final end told n in
+      let three = cut line (w .three) in
+      let told = d ∙ ap (λ (x : Command). leaving p (does shown x one two three h)) c in
+      let words = ended-so p (does shown (commandOf (cut line (w .name)) (w .count)) one two three h) (cut line (w .name)) done m q room out final end told n in
       rw (t, le-ltb _ _ l) (words ∙ ap (λ (x : Words). leaving p (wordsDo shown line x h)) e)

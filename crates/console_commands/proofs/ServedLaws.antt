@@ -10,17 +10,16 @@ use lib.Seq.{length-take-le, take-append-add, take-append-seam, take-take, drop-
 use borrow.Author.Tests.{le-ltb, ltb-true, ltb-false}
 use borrow.Rule.Slice.PartMut.{putMid}
 use Rattle.words.specs.Choice.{when}
+use Rattle.am9517.specs.declared.Controller.{Controller}
+use Rattle.board.specs.declared.Board.{Board}
 use Rattle.console_text.specs.Text.{Page, page}
-use Rattle.console_text.specs.declared.forms.ServiceCommand.{ServiceCommand}
 use Rattle.console_arrays.specs.Arrays.{held}
-use Rattle.console_arrays.specs.Services.{Service, Seen, served, serving}
-use Rattle.console_arrays.specs.declared.runs.Served.{Served}
+use Rattle.console_arrays.specs.Services.{Service, Seen, serving}
 use Rattle.console_arrays.proofs.ArrayLaws.{held-front, held-length}
 use Rattle.console_commands.specs.Holding.{Held, having, holds, Left, left, leaving}
-use Rattle.console_commands.specs.Doings.{further, serviceReply, servicesDo}
+use Rattle.console_commands.specs.Doings.{further, lentTo, serviced}
 use Rattle.console_commands.specs.Needs.{Standing, afterService}
 use Rattle.console_commands.specs.declared.Console.{Console}
-use Rattle.console_commands.specs.declared.holding.Executed.{Executed}
 
 -- bytes used leave the queue
 used-left : (q : List ℕ) (from to n : ℕ) → from ≤ to → to ≤ length q → held q (further from n to) to ≡ drop n (held q from to)
@@ -50,14 +49,14 @@ room-back w size room new h l e =
     ∙ ap (λ (x : List ℕ). take w room ++ x) (take-append-seam new rest)
     ∙ ap (λ (x : List ℕ). x ++ new) (sym (take-take w size room h))
 
-module _ (c : Console) (m q room : List ℕ) (s : Standing c (length m) (length q) (length room)) where
-  module _ (k : ServiceCommand) (one two : List ℕ) (p : Page) (r : Served) (m' room' out : List ℕ) where
+-- A service of a controller or a board, by its parts of the arrays; `a` is what it is of, as it is next.
+module _ (c : Console) (m q room : List ℕ) (s : Standing c (length m) (length q) (length room)) {A : Type 0} (controller : A → Controller) (board : A → Board) where
+  module _ (asked : List ℕ → List ℕ → List ℕ → Service A) (p : Page) (a : A) (used written : ℕ) (m' room' out : List ℕ) (at : ℕ) where
     abbrev h : Held
     h = holds c m q room
 
-    -- what it is asked, by its parts of the arrays
-    abbrev asked : List ℕ → List ℕ → Service
-    asked memory room = serviceReply k (c .controller) memory (h .queue) room one two
+    abbrev done : Service A
+    done = lentTo h asked
 
     -- the arrays when these are back
     abbrev memory : List ℕ
@@ -66,21 +65,23 @@ module _ (c : Console) (m q room : List ℕ) (s : Standing c (length m) (length 
     abbrev rest : List ℕ
     rest = putMid (c .written) (c .size - c .written) room room'
 
-    module _ (e : served r m' room' out ≡ serving p (asked (take (c .lent - 0) (drop 0 m)) (held room (c .written) (c .size)))) (l : length room' ≡ c .size - c .written) where
+    abbrev seen-of : Seen A
+    seen-of = record { next = a; used = used; written = written; memory = m'; room = room'; page = page out at }
+
+    module _ (e : seen-of ≡ serving p (asked (take (c .lent - 0) (drop 0 m)) (h .queue) (held room (c .written) (c .size)))) (l : length room' ≡ c .size - c .written) where
       -- what is seen of it is what it does to all that is held
-      told : served r m' room' out ≡ serving p (asked (take (c .lent) m) (drop (c .written) (h .room)))
+      told : seen-of ≡ serving p done
       told =
           let none : c .lent - 0 ≡ c .lent = omega arith in
           e
-          ∙ ap (λ (n : ℕ). serving p (asked (take n m) (held room (c .written) (c .size)))) none
-          ∙ ap (λ (x : List ℕ). serving p (asked (take (c .lent) m) x)) (sym (held-front room (c .written) (c .size) (s .placed) (s .roomed)))
+          ∙ ap (λ (n : ℕ). serving p (asked (take n m) (h .queue) (held room (c .written) (c .size)))) none
+          ∙ ap (λ (x : List ℕ). serving p (asked (take (c .lent) m) (h .queue) x)) (sym (held-front room (c .written) (c .size) (s .placed) (s .roomed)))
 
-      abbrev seen : Seen → Left
+      abbrev seen : Seen A → Left
       seen x =
           record {
             holding =
-                having
-                (x .controller)
+                having (controller (x .next)) (board (x .next))
                 (x .memory ++ drop (c .lent) m)
                 (c .lent)
                 (drop (x .used) (h .queue))
@@ -89,17 +90,18 @@ module _ (c : Console) (m q room : List ℕ) (s : Standing c (length m) (length 
             page = x .page;
           }
 
-      served-so : left (record { console = afterService c r; at = r .at }) memory q rest out ≡ leaving p (servicesDo k one two h)
+      abbrev after : Console
+      after = afterService c (controller a) (board a) used written
+
+      served-so : left (record { console = after; at = at }) memory q rest out ≡ leaving p (serviced h (controller (done .next)) (board (done .next)) done)
       served-so =
           let none : c .lent - 0 ≡ c .lent = omega arith in
           let whole : memory ≡ m' ++ drop (c .lent) m = ap (λ (n : ℕ). m' ++ drop n m) none in
-          let queue = used-left q (c .start) (c .end) (r .used) (s .ordered) (s .queued) in
+          let queue = used-left q (c .start) (c .end) used (s .ordered) (s .queued) in
           let back = room-back (c .written) (c .size) room room' (s .placed) (s .roomed) l in
           let size : c .size ≡ length (h .room) = sym (length-take-le (c .size) room (s .roomed)) in
-          rw (whole, queue, back, ap (further (c .written) (r .written)) size) (ap seen told)
+          rw (whole, queue, back, ap (further (c .written) written) size) (ap seen told)
 
-      pub service-so : (x : Executed) → x .console ≡ afterService c r → x .at ≡ r .at → left x memory q rest out ≡ leaving p (servicesDo k one two h)
-      service-so x a b =
-          ap (λ (y : Console). record { holding = holds y memory q rest; page = page out (x .at) }) a
-          ∙ ap (λ (n : ℕ). record { holding = holds (afterService c r) memory q rest; page = page out n }) b
-          ∙ served-so
+      pub service-so : (y : Console) → y ≡ after
+          → left (record { console = y; at = at }) memory q rest out ≡ leaving p (serviced h (controller (done .next)) (board (done .next)) done)
+      service-so y d = ap (λ (x : Console). record { holding = holds x memory q rest; page = page out at }) d ∙ served-so

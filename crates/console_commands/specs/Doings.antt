@@ -8,30 +8,41 @@ use Rattle.words.specs.Choice.{when}
 use Rattle.am9517.specs.State.{fresh}
 use Rattle.am9517.specs.Answers.{resetOf, grantOf}
 use Rattle.am9517.specs.declared.Controller.{Controller}
+use Rattle.board.specs.declared.Board.{Board}
+use Rattle.board.specs.Chips.{freshBoard}
+use Rattle.board.specs.Answers.{boardResetOf, boardGrantOf}
 use Rattle.am9517_sheet.specs.declared.forms.Form.the-variants.{One, Two}
 use Rattle.console_text.specs.Text.{codes}
 use Rattle.console_text.specs.Lines.{cut, wordsIn}
 use Rattle.console_text.specs.Commands.{commandOf}
 use Rattle.console_text.specs.declared.line.Words.{Words}
 use Rattle.console_text.specs.declared.forms.Command.{Command}
-use Rattle.console_text.specs.declared.forms.Command.the-variants.{Nothing, Chip, Arrays, Services, People, Unknown}
+use Rattle.console_text.specs.declared.forms.Command.the-variants.{Nothing, Chip, Arrays, Services, Board as OnBoard, BoardServices, People, Unknown}
 use Rattle.console_text.specs.declared.forms.ChipCommand.{ChipCommand}
 use Rattle.console_text.specs.declared.forms.ChipCommand.the-variants.{State, SetState, Full, SetFull, Fresh, FreshOf, Write, Read, Pins, Reset, Waits, Grant, Sheet, Load, Sheet2, Load2, Forward, Back}
 use Rattle.console_text.specs.declared.forms.ArrayCommand.{ArrayCommand}
 use Rattle.console_text.specs.declared.forms.ArrayCommand.the-variants.{Memory, Poke, Peek, Feed, Fill, Room, Out, Dump, Queue, Empty}
 use Rattle.console_text.specs.declared.forms.ServiceCommand.{ServiceCommand}
 use Rattle.console_text.specs.declared.forms.ServiceCommand.the-variants.{Run, Round, Judge}
+use Rattle.console_text.specs.declared.forms.BoardCommand.{BoardCommand}
+use Rattle.console_text.specs.declared.forms.BoardCommand.the-variants as board
+use Rattle.console_text.specs.declared.forms.BoardServiceCommand.{BoardServiceCommand}
+use Rattle.console_text.specs.declared.forms.BoardServiceCommand.the-variants as boardService
 use Rattle.console_chip.specs.Answers.{okText, errorText, bytesAnswer, Reply, reply, outcomeReply}
 use Rattle.console_chip.specs.Control.{stateText, stateReply, fullText, fullReply, freshReply, writeReply, readReply, pinsReply, waitsReply}
 use Rattle.console_chip.specs.Sheets.{sheetReply, loadReply, convertReply}
 use Rattle.console_arrays.specs.Arrays.{lentOf, lentText, peekText, Changed, changed, pokeOf, feedOf, fillOf, roomOf, positionOf}
 use Rattle.console_arrays.specs.Services.{Service, runReply, roundReply}
 use Rattle.console_arrays.specs.Judging.{judgeReply}
+use Rattle.console_board.specs.Answers.{boardOutcomeReply}
+use Rattle.console_board.specs.Control.{boardStateText, boardStateReply, boardFreshReply, boardWriteReply, boardReadReply, boardPinsReply, boardWaitsReply}
+use Rattle.console_board.specs.Sheets.{boardSheetReply, boardLoadReply}
+use Rattle.console_board.specs.Services.{boardRunReply, boardRoundReply}
 use Rattle.console_dump.specs.Dump.{dumpOf}
 use Rattle.console_commands.specs.Holding.{Held, having, Said, said}
 
 -- On the controller: the next one, and the answer.
-unfoldable pub chipReply : ChipCommand → Controller → List ℕ → List ℕ → Reply
+unfoldable pub chipReply : ChipCommand → Controller → List ℕ → List ℕ → Reply Controller
 chipReply State c one two = reply c (stateText c)
 chipReply SetState c one two = stateReply c one
 chipReply Full c one two = reply c (fullText c)
@@ -51,21 +62,39 @@ chipReply Load2 c one two = loadReply Two c one
 chipReply Forward c one two = convertReply Two c one two
 chipReply Back c one two = convertReply One c one two
 
-abbrev pub controlled : Held → Reply → Said
-controlled h r = said (having (r .controller) (h .memory) (h .lent) (h .queue) (h .room) (h .written)) (r .text)
+abbrev pub controlled : Held → Reply Controller → Said
+controlled h r = said (having (r .next) (h .board) (h .memory) (h .lent) (h .queue) (h .room) (h .written)) (r .text)
+
+-- On the board: the next one, and the answer.
+unfoldable pub boardReply : BoardCommand → Board → List ℕ → List ℕ → List ℕ → Reply Board
+boardReply board.State b one two three = reply b (boardStateText b)
+boardReply board.SetState b one two three = boardStateReply b one
+boardReply board.Fresh b one two three = reply (freshBoard 0 0) okText
+boardReply board.FreshOf b one two three = boardFreshReply b one two
+boardReply board.Write b one two three = boardWriteReply b one two
+boardReply board.Read b one two three = boardReadReply b one
+boardReply board.Pins b one two three = boardPinsReply b one
+boardReply board.Reset b one two three = boardOutcomeReply false (boardResetOf b)
+boardReply board.Waits b one two three = boardWaitsReply b one two
+boardReply board.Grant b one two three = boardOutcomeReply true (boardGrantOf b)
+boardReply board.Sheet b one two three = boardSheetReply b one two three
+boardReply board.Load b one two three = boardLoadReply b one two three
+
+abbrev pub boarded : Held → Reply Board → Said
+boarded h r = said (having (h .controller) (r .next) (h .memory) (h .lent) (h .queue) (h .room) (h .written)) (r .text)
 
 -- On the memory, the queue and the room: what is held with another one, and the answer.
 abbrev pub lending : Held → ℕ → List ℕ → Said
-lending h n text = said (having (h .controller) (h .memory) n (h .queue) (h .room) (h .written)) text
+lending h n text = said (having (h .controller) (h .board) (h .memory) n (h .queue) (h .room) (h .written)) text
 
 abbrev pub remembering : Held → Changed → Said
-remembering h c = said (having (h .controller) (c .array) (h .lent) (h .queue) (h .room) (h .written)) (c .text)
+remembering h c = said (having (h .controller) (h .board) (c .array) (h .lent) (h .queue) (h .room) (h .written)) (c .text)
 
 abbrev pub queueing : Held → Changed → Said
-queueing h c = said (having (h .controller) (h .memory) (h .lent) (c .array) (h .room) (h .written)) (c .text)
+queueing h c = said (having (h .controller) (h .board) (h .memory) (h .lent) (c .array) (h .room) (h .written)) (c .text)
 
 abbrev pub rooming : Held → Changed → ℕ → Said
-rooming h c position = said (having (h .controller) (h .memory) (h .lent) (h .queue) (c .array) position) (c .text)
+rooming h c position = said (having (h .controller) (h .board) (h .memory) (h .lent) (h .queue) (c .array) position) (c .text)
 
 unfoldable pub arraysDo : ArrayCommand → List ℕ → List ℕ → Held → Said
 arraysDo Memory one two h = lending h (lentOf (h .lent) one) (lentText one)
@@ -80,7 +109,7 @@ arraysDo Queue one two h = said h (bytesAnswer (h .queue))
 arraysDo Empty one two h = queueing h (changed [] okText)
 
 -- A service on what is lent to it: memory, device bytes and room.
-unfoldable pub serviceReply : ServiceCommand → Controller → List ℕ → List ℕ → List ℕ → List ℕ → List ℕ → Service
+unfoldable pub serviceReply : ServiceCommand → Controller → List ℕ → List ℕ → List ℕ → List ℕ → List ℕ → Service Controller
 serviceReply Run c memory device room one two = runReply c memory device room one two
 serviceReply Round c memory device room one two = roundReply c memory device room one
 serviceReply Judge c memory device room one two = judgeReply c memory room one
@@ -89,12 +118,15 @@ serviceReply Judge c memory device room one two = judgeReply c memory room one
 unfoldable pub further : ℕ → ℕ → ℕ → ℕ
 further from n last = when (ltb last from) from (when (ltb (last - from) n) last (from + n))
 
+unfoldable pub boardServiceReply : BoardServiceCommand → Board → List ℕ → List ℕ → List ℕ → List ℕ → List ℕ → Service Board
+boardServiceReply boardService.Run b memory device room one two = boardRunReply b memory device room one two
+boardServiceReply boardService.Round b memory device room one two = boardRoundReply b memory device room one
+
 -- "Bytes used leave the queue; bytes written go to the room from its write position on, which moves behind them"
-abbrev pub serviced : Held → Service → Said
-serviced h s =
+abbrev pub serviced : {A : Type 0} → Held → Controller → Board → Service A → Said
+serviced h c b s =
     said
-    (having
-    (s .controller)
+    (having c b
     (s .memory ++ drop (h .lent) (h .memory))
     (h .lent)
     (drop (s .used) (h .queue))
@@ -103,18 +135,29 @@ serviced h s =
     (s .text)
 
 -- "the first `memory` bytes are lent to runs and rounds"; the queue is lent, and the room from its write position on
+abbrev pub lentTo : {A : Type 0} → Held → (List ℕ → List ℕ → List ℕ → A) → A
+lentTo h asked = asked (take (h .lent) (h .memory)) (h .queue) (drop (h .written) (h .room))
+
 abbrev pub servicesDo : ServiceCommand → List ℕ → List ℕ → Held → Said
 servicesDo k one two h =
-    serviced h (serviceReply k (h .controller) (take (h .lent) (h .memory)) (h .queue) (drop (h .written) (h .room)) one two)
+    let s = lentTo h (λ (m d r : List ℕ). serviceReply k (h .controller) m d r one two) in
+    serviced h (s .next) (h .board) s
+
+abbrev pub boardServicesDo : BoardServiceCommand → List ℕ → List ℕ → Held → Said
+boardServicesDo k one two h =
+    let s = lentTo h (λ (m d r : List ℕ). boardServiceReply k (h .board) m d r one two) in
+    serviced h (h .controller) (s .next) s
 
 -- All commands; `shown` is what `show` or `help` tells.
-unfoldable pub does : List ℕ → Command → List ℕ → List ℕ → Held → Said
-does shown Nothing one two h = said h []
-does shown (Chip k) one two h = controlled h (chipReply k (h .controller) one two)
-does shown (Arrays k) one two h = arraysDo k one two h
-does shown (Services k) one two h = servicesDo k one two h
-does shown (People k) one two h = said h shown
-does shown Unknown one two h = said h errorText
+unfoldable pub does : List ℕ → Command → List ℕ → List ℕ → List ℕ → Held → Said
+does shown Nothing one two three h = said h []
+does shown (Chip k) one two three h = controlled h (chipReply k (h .controller) one two)
+does shown (Arrays k) one two three h = arraysDo k one two h
+does shown (Services k) one two three h = servicesDo k one two h
+does shown (OnBoard k) one two three h = boarded h (boardReply k (h .board) one two three)
+does shown (BoardServices k) one two three h = boardServicesDo k one two h
+does shown (People k) one two three h = said h shown
+does shown Unknown one two three h = said h errorText
 
 -- an answer is a line; a line of no words, that is of no name, has none
 unfoldable pub ending : List ℕ → List ℕ
@@ -130,7 +173,7 @@ erred h = said h (errorText ++ codes "\n")
 abbrev pub wordsDo : List ℕ → List ℕ → Words → Held → Said
 wordsDo shown line w h =
     let name = cut line (w .name) in
-    ended name (does shown (commandOf name (w .count)) (cut line (w .one)) (cut line (w .two)) h)
+    ended name (does shown (commandOf name (w .count)) (cut line (w .one)) (cut line (w .two)) (cut line (w .three)) h)
 
 -- what a line says, without comment and carriage return: "A line may be as long as 200,000 characters."
 unfoldable pub lineOf : List ℕ → List ℕ → Held → Said

@@ -8,6 +8,8 @@ use lib.ListN.{length, take}
 use Rattle.words.specs.Choice.{_and_}
 use Rattle.am9517.specs.State.{fresh}
 use Rattle.am9517.specs.declared.Controller.{Controller}
+use Rattle.board.specs.declared.Board.{Board}
+use Rattle.board.specs.Chips.{freshBoard}
 use Rattle.console_text.specs.Text.{Page, page, put}
 use Rattle.console_arrays.specs.Arrays.{held}
 use Rattle.console_commands.specs.declared.Console.{Console}
@@ -15,22 +17,24 @@ use Rattle.console_commands.specs.declared.holding.Executed.{Executed}
 
 -- "The console holds: one controller (fresh at the start); a memory array of 65,537 bytes, zero at the start, of which
 -- the first memory bytes are lent to runs and rounds (65,536 at the start); the device's input queue (empty, at most
--- 70,000 bytes); the device room (0 bytes at the start, at most 70,000) with a write position."
+-- 70,000 bytes); the device room (0 bytes at the start, at most 70,000) with a write position." With document 02's A9 it holds one
+-- board, too: "The memory array, queue and room above serve the controller, the board and the 8257 alike."
 pub record Held : Type 0 where
   pub controller : Controller
+  pub board : Board
   pub memory : List ℕ
   pub lent : ℕ
   pub queue : List ℕ
   pub room : List ℕ
   pub written : ℕ
 
-abbrev pub having : Controller → List ℕ → ℕ → List ℕ → List ℕ → ℕ → Held
-having c memory lent queue room written =
-    record { controller = c; memory = memory; lent = lent; queue = queue; room = room; written = written }
+abbrev pub having : Controller → Board → List ℕ → ℕ → List ℕ → List ℕ → ℕ → Held
+having c b memory lent queue room written =
+    record { controller = c; board = b; memory = memory; lent = lent; queue = queue; room = room; written = written }
 
--- at the start: a fresh controller, 65,536 bytes lent, the queue empty, a room of 0 bytes
+-- at the start: a fresh controller, "a fresh board, of these editions (0 0 when missing)", 65,536 bytes lent, the queue empty, a room of 0 bytes
 abbrev pub freshConsole : Console
-freshConsole = record { controller = fresh 0; lent = 65536; start = 0; end = 0; size = 0; written = 0 }
+freshConsole = record { controller = fresh 0; board = freshBoard 0 0; lent = 65536; start = 0; end = 0; size = 0; written = 0 }
 
 -- What a line does: what is held after it, and the text of its answer.
 pub record Said : Type 0 where
@@ -49,7 +53,7 @@ stands c memory queue room spare =
     and leb 100000 spare
 
 abbrev pub holds : Console → List ℕ → List ℕ → List ℕ → Held
-holds c memory queue room = having (c .controller) memory (c .lent) (held queue (c .start) (c .end)) (take (c .size) room) (c .written)
+holds c memory queue room = having (c .controller) (c .board) memory (c .lent) (held queue (c .start) (c .end)) (take (c .size) room) (c .written)
 
 -- What is seen of a line: what the console holds after it, and the page that its answer stands on.
 pub record Left : Type 0 where

@@ -3,9 +3,9 @@ use Prim.Native.Nat.{ℕ, _≤_}
 use mathlib.Core.Path.{_≡_}
 use mathlib.Core.List.{List}
 use Rattle.am9517.specs.declared.Controller.{Controller}
+use Rattle.board.specs.declared.Board.{Board}
 use Rattle.console_text.specs.Text.{Page, put}
 use Rattle.console_arrays.specs.declared.arrays.Part.{Part}
-use Rattle.console_arrays.specs.declared.runs.Served.{Served}
 use Rattle.console_commands.specs.declared.Console.{Console}
 use Rattle.console_commands.specs.declared.holding.Executed.{Executed}
 use Rattle.console_commands.specs.Holding.{Said, Left, leaving}
@@ -38,30 +38,36 @@ queuePart r = record { from = r .console .start; to = r .console .end; at = r .a
 abbrev pub roomPart : Executed → Part
 roomPart r = record { from = r .console .written; to = r .console .size; at = r .at }
 
--- a console that differs in its queue, its room, the bytes lent or its controller alone
+-- a console that differs in its queue, its room, the bytes lent, its controller or its board alone
 abbrev pub withQueue : Console → Executed → Console
 withQueue c r =
-    record { controller = c .controller; lent = c .lent; start = r .console .start; end = r .console .end; size = c .size; written = c .written }
+    record { controller = c .controller; board = c .board; lent = c .lent; start = r .console .start; end = r .console .end; size = c .size; written = c .written }
 
 abbrev pub withRoom : Console → Executed → Console
 withRoom c r =
-    record { controller = c .controller; lent = c .lent; start = c .start; end = c .end; size = r .console .size; written = r .console .written }
+    record { controller = c .controller; board = c .board; lent = c .lent; start = c .start; end = c .end; size = r .console .size; written = r .console .written }
 
 abbrev pub withLent : Console → ℕ → Console
 withLent c n =
-    record { controller = c .controller; lent = n; start = c .start; end = c .end; size = c .size; written = c .written }
+    record { controller = c .controller; board = c .board; lent = n; start = c .start; end = c .end; size = c .size; written = c .written }
 
 abbrev pub withController : Console → Controller → Console
 withController c next =
-    record { controller = next; lent = c .lent; start = c .start; end = c .end; size = c .size; written = c .written }
+    record { controller = next; board = c .board; lent = c .lent; start = c .start; end = c .end; size = c .size; written = c .written }
 
-abbrev pub afterService : Console → Served → Console
-afterService c s =
+abbrev pub withBoard : Console → Board → Console
+withBoard c next =
+    record { controller = c .controller; board = next; lent = c .lent; start = c .start; end = c .end; size = c .size; written = c .written }
+
+-- and one whose controller or board used and wrote so many device bytes
+abbrev pub afterService : Console → Controller → Board → ℕ → ℕ → Console
+afterService c controller board used written =
     record {
-      controller = s .controller;
+      controller = controller;
+      board = board;
       lent = c .lent;
-      start = further (c .start) (s .used) (c .end);
+      start = further (c .start) used (c .end);
       end = c .end;
       size = c .size;
-      written = further (c .written) (s .written) (c .size);
+      written = further (c .written) written (c .size);
     }

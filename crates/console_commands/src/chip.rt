@@ -93,7 +93,7 @@ pub(crate) fn on_chip(
     at: usize,
 ) -> Executed
     requires { ⌜ (70000 ≤ length (now spare)) × (length (now one) / 2 ≤ length (now spare)) ⌝ }
-    ensures { λ r. ⌜ (r .console ≡ withController console (chipReply command (console .controller) (now (one .entry)) (now (two .entry)) .controller)) × (page (now (out .exit)) (r .at) ≡ put (page (now (out .entry)) at) (chipReply command (console .controller) (now (one .entry)) (now (two .entry)) .text)) ⌝ }
+    ensures { λ r. ⌜ (r .console ≡ withController console (chipReply command (console .controller) (now (one .entry)) (now (two .entry)) .next)) × (page (now (out .exit)) (r .at) ≡ put (page (now (out .entry)) at) (chipReply command (console .controller) (now (one .entry)) (now (two .entry)) .text)) ⌝ }
 {
     let c = console.controller;
     let done = chip_said(c, command, one, two, spare, out, at);

@@ -1,12 +1,14 @@
 // One line: what it does to what the console holds, and its answer.
 use crate::Console;
 use crate::arrays::on_arrays;
+use crate::board_commands::on_board;
 use crate::chip::on_chip;
 use crate::holding::Executed;
 use crate::holding::error_line;
 use crate::holding::newline;
 use crate::holding::stands;
 use crate::people::on_people;
+use crate::services::on_board_services;
 use crate::services::on_services;
 use console_chip::answers::error;
 use console_text::forms::Command;
@@ -28,6 +30,7 @@ fn perform(
     command: Command,
     one: &[u8],
     two: &[u8],
+    three: &[u8],
     memory: &mut [u8],
     queue: &mut [u8],
     room: &mut [u8],
@@ -35,8 +38,8 @@ fn perform(
     out: &mut [u8],
     at: usize,
 ) -> Executed
-    requires { ⌜ Standing console (length (now memory)) (length (now queue)) (length (now room)) × (100000 ≤ length (now spare)) × (length (now one) ≤ 200000) ⌝ }
-    ensures { λ r. ⌜ ForSome (left r (now (memory .exit)) (now (queue .exit)) (now (room .exit)) (now (out .exit))) (λ (shown : List ℕ). does shown command (now (one .entry)) (now (two .entry)) (holds console (now (memory .entry)) (now (queue .entry)) (now (room .entry)))) (page (now (out .entry)) at) × Standing (r .console) (length (now (memory .entry))) (length (now (queue .entry))) (length (now (room .entry))) ⌝ }
+    requires { ⌜ Standing console (length (now memory)) (length (now queue)) (length (now room)) × (100000 ≤ length (now spare)) × (length (now one) ≤ 200000) × (length (now three) ≤ 200000) ⌝ }
+    ensures { λ r. ⌜ ForSome (left r (now (memory .exit)) (now (queue .exit)) (now (room .exit)) (now (out .exit))) (λ (shown : List ℕ). does shown command (now (one .entry)) (now (two .entry)) (now (three .entry)) (holds console (now (memory .entry)) (now (queue .entry)) (now (room .entry)))) (page (now (out .entry)) at) × Standing (r .console) (length (now (memory .entry))) (length (now (queue .entry))) (length (now (room .entry))) ⌝ }
 {
     match command {
         Command::Nothing => Executed { console, at },
@@ -44,6 +47,10 @@ fn perform(
         Command::Arrays(k) => on_arrays(console, k, one, two, memory, queue, room, out, at),
         Command::Services(k) => {
             on_services(console, k, one, two, memory, queue, room, spare, out, at)
+        }
+        Command::Board(k) => on_board(console, k, one, two, three, spare, out, at),
+        Command::BoardServices(k) => {
+            on_board_services(console, k, one, two, memory, queue, room, out, at)
         }
         Command::People(k) => {
             let next = on_people(console, k, one, spare, out, at);
@@ -85,15 +92,19 @@ pub fn execute(
     let one_to = words.one.to;
     let two_from = words.two.from;
     let two_to = words.two.to;
+    let three_from = words.three.from;
+    let three_to = words.three.to;
     let name = &line[name_from..name_to];
     let one = &line[one_from..one_to];
     let two = &line[two_from..two_to];
+    let three = &line[three_from..three_to];
     let command = command_of(name, words.count);
     let done = perform(
         console,
         command,
         one,
         two,
+        three,
         memory,
         queue,
         room,

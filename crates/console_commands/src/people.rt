@@ -1,5 +1,6 @@
 // The commands for people: of their texts nothing is promised but that they are put on the page.
 use crate::Console;
+use console_board_show::show_board;
 use console_chip::answers::error;
 use console_show::help;
 use console_show::help_on;
@@ -13,13 +14,23 @@ use console_text::page::text;
 ghost use Rattle.console_text.specs.Text.{page};
 ghost use Rattle.console_commands.specs.Needs.{Tells};
 
+// What the controller and the board are lent.
+fn show_others(console: Console, out: &mut [u8], at: usize) -> usize {
+    let next = show_arrays(console.lent, console.start, console.end, out, at);
+    show_room(console.written, console.size, out, next)
+}
+
 fn told(console: Console, command: PeopleCommand, one: &[u8], out: &mut [u8]) -> usize {
     match command {
         PeopleCommand::Show => {
             let c = console.controller;
             let next = show(c, out, 0);
-            let next = show_arrays(console.lent, console.start, console.end, out, next);
-            show_room(console.written, console.size, out, next)
+            show_others(console, out, next)
+        }
+        PeopleCommand::BoardShow => {
+            let b = console.board;
+            let next = show_board(b, out, 0);
+            show_others(console, out, next)
         }
         PeopleCommand::Help => help(out, 0),
         PeopleCommand::HelpOn => {

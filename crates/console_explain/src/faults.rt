@@ -1,5 +1,7 @@
 // Why a line was answered by `error`: its name, the number of its words, a word, or a place outside an array.
 use crate::Held;
+use crate::boards::board_limit;
+use crate::boards::is_board;
 use crate::forms::NO_BYTE;
 use crate::forms::NO_BYTES;
 use crate::forms::NO_SWITCH;
@@ -119,6 +121,9 @@ fn limit(out: &mut [u8], at: usize, held: Held, name: &[u8], line: &[u8]) -> usi
             at,
             b"N is 16384 at most, and all lies within the memory, which has 65537 bytes\n",
         );
+    }
+    if is_board(line) {
+        return board_limit(out, at, name);
     }
     if makes_state(name) {
         return state_limit(out, at, name);

@@ -1,5 +1,6 @@
 // Why a line was answered by `error` or by `refused N`, in words for people. Nothing is promised of these texts but that they
 // are put safely.
+mod boards;
 mod faults;
 mod forms;
 mod refusals;
@@ -7,6 +8,7 @@ mod say;
 mod sheets;
 
 use am9517::Controller;
+use board::Board;
 use console_text::line::same;
 use faults::error_in;
 use refusals::refusal;
@@ -14,6 +16,7 @@ use refusals::refusal;
 // What the console holds, as far as an answer depends on it.
 pub struct Held {
     pub controller: Controller,
+    pub board: Board,
     pub lent: usize,
     pub queued: usize,
     pub size: usize,
@@ -37,7 +40,6 @@ pub fn explain(
     if !same(&answer[0..8], b"refused ") {
         return at;
     }
-    let c = held.controller;
     let end = answer.len() - 1;
-    refusal(c, held.lent, rows, line, &answer[8..end], out, at)
+    refusal(held, rows, line, &answer[8..end], out, at)
 }

@@ -1,8 +1,12 @@
 // What a refusal's number means, and what of the state or of the line it comes from.
+use crate::Held;
+use crate::boards::is_board;
+use crate::boards::of_board;
 use crate::sheets::of_sheet;
 use am9517::Controller;
 use am9517::modes::disabled;
 use am9517::modes::is_block;
+use console_show::names::channel_number;
 use console_show::rows::row_end;
 use console_show::rows::row_from;
 use console_text::line::same;
@@ -41,42 +45,61 @@ fn of_request(out: &mut [u8], at: usize, is_requested: bool, mode: u8) -> usize 
     )
 }
 
-fn of_channel(out: &mut [u8], at: usize, c: Controller, n: usize, mode: u8) -> usize {
+fn of_channel(out: &mut [u8], at: usize, c: Controller, base: u8, n: usize, mode: u8) -> usize {
     let next = text(out, at, b"    channel ");
-    let next = decimal(out, next, n as u64);
+    let next = channel_number(out, next, base, n);
     let active = c.active(n);
     let next = of_line(out, next, active, is_set(c.mask, n));
     of_request(out, next, is_set(c.request, n), mode)
 }
 
-fn of_channels(out: &mut [u8], at: usize, c: Controller) -> usize {
+fn of_channels(out: &mut [u8], at: usize, c: Controller, base: u8) -> usize {
     let first = c.channels[0];
-    let next = of_channel(out, at, c, 0, first.mode);
+    let next = of_channel(out, at, c, base, 0, first.mode);
     let second = c.channels[1];
-    let next = of_channel(out, next, c, 1, second.mode);
+    let next = of_channel(out, next, c, base, 1, second.mode);
     let third = c.channels[2];
-    let next = of_channel(out, next, c, 2, third.mode);
+    let next = of_channel(out, next, c, base, 2, third.mode);
     let fourth = c.channels[3];
-    of_channel(out, next, c, 3, fourth.mode)
+    of_channel(out, next, c, base, 3, fourth.mode)
 }
 
-// Why nobody is entitled.
-fn nobody(out: &mut [u8], at: usize, c: Controller) -> usize {
+// Why nobody is entitled; the channels are told from `base` on.
+pub(crate) fn nobody(out: &mut [u8], at: usize, c: Controller, base: u8) -> usize {
     if disabled(c.command) {
         let next = text(out, at, b"    bit 2 of the command disables all channels\n");
-        return of_channels(out, next, c);
+        return of_channels(out, next, c, base);
     }
-    of_channels(out, at, c)
+    of_channels(out, at, c, base)
 }
 
 // Whether the edition is the broken range.
-fn broken(out: &mut [u8], at: usize, edition: u8) -> usize {
+pub(crate) fn broken(out: &mut [u8], at: usize, whose: &[u8], edition: u8) -> usize {
     if edition <= 1 {
         return at;
     }
-    let next = text(out, at, b"    its edition is ");
+    let next = text(out, at, b"    ");
+    let next = text(out, next, whose);
+    let next = text(out, next, b" edition is ");
     let next = decimal(out, next, edition as u64);
     text(out, next, b": 0 is Am9517A, 1 is Intel 8237A\n")
+}
+
+// Whose service is open.
+pub(crate) fn of_service(out: &mut [u8], at: usize, base: u8, channel: u8) -> usize {
+    let next = text(out, at, b"    the service is channel ");
+    let next = channel_number(out, next, base, channel as usize);
+    text(out, next, b"'s: run it to its end\n")
+}
+
+pub(crate) fn of_lent(out: &mut [u8], at: usize, lent: usize) -> usize {
+    let next = text(out, at, b"    lent are ");
+    let next = decimal(out, next, lent as u64);
+    text(
+        out,
+        next,
+        b" bytes: memory 65536 lends as many as it takes\n",
+    )
 }
 
 // What of the state or of the line it comes from, where its words don't tell.
@@ -89,28 +112,20 @@ fn cause(
     number: &[u8],
 ) -> usize {
     if same(number, b"1") {
-        return broken(out, at, c.edition);
+        return broken(out, at, b"its", c.edition);
     }
     let about_sheets = same(number, b"9") | same(number, b"11") | same(number, b"14");
     if about_sheets | same(number, b"15") {
         return of_sheet(out, at, c, line, number);
     }
     if same(number, b"6") {
-        return nobody(out, at, c);
+        return nobody(out, at, c, 0);
     }
     if same(number, b"3") {
-        let next = text(out, at, b"    the service is channel ");
-        let next = decimal(out, next, c.serving as u64);
-        return text(out, next, b"'s: run it to its end\n");
+        return of_service(out, at, 0, c.serving);
     }
     if same(number, b"7") {
-        let next = text(out, at, b"    lent are ");
-        let next = decimal(out, next, lent as u64);
-        return text(
-            out,
-            next,
-            b" bytes: memory 65536 lends as many as it takes\n",
-        );
+        return of_lent(out, at, lent);
     }
     at
 }
@@ -127,8 +142,7 @@ fn meaning(out: &mut [u8], at: usize, rows: &[u8], from: usize) -> usize
 }
 
 pub(crate) fn refusal(
-    c: Controller,
-    lent: usize,
+    held: Held,
     rows: &[u8],
     line: &[u8],
     number: &[u8],
@@ -141,5 +155,10 @@ pub(crate) fn refusal(
     let next = text(out, next, b": ");
     let next = meaning(out, next, rows, from);
     let next = text(out, next, b"\n");
-    cause(out, next, c, lent, line, number)
+    if is_board(line) {
+        let b = held.board;
+        return of_board(out, next, b, held.lent, line, number);
+    }
+    let c = held.controller;
+    cause(out, next, c, held.lent, line, number)
 }

@@ -27,7 +27,7 @@ fn of_size(out: &mut [u8], at: usize, name: &[u8]) -> usize {
 }
 
 // Whether the trailer begins so.
-fn says(digits: &[u8], form: &[u8]) -> bool {
+pub(crate) fn says(digits: &[u8], form: &[u8]) -> bool {
     if digits.len() < TRAILER {
         return false;
     }
@@ -72,7 +72,7 @@ fn of_old(out: &mut [u8], at: usize, name: &[u8], digits: &[u8]) -> usize {
 }
 
 // Whether it is its edition that is out of range.
-fn of_range(out: &mut [u8], at: usize, digits: &[u8]) -> usize {
+pub(crate) fn of_range(out: &mut [u8], at: usize, digits: &[u8]) -> usize {
     if digits.len() < SHEET2 {
         return at;
     }
@@ -103,33 +103,34 @@ fn of_front(out: &mut [u8], at: usize, digits: &[u8]) -> usize {
 }
 
 // What of the state has no place in a sheet of form 1: its edition, its waits.
-fn of_edition(out: &mut [u8], at: usize, edition: u8) -> usize {
+fn of_edition(out: &mut [u8], at: usize, edition: u8, form2: &[u8]) -> usize {
     if edition == 0 {
         return at;
     }
-    text(
-        out,
-        at,
-        b"    the state is an Intel 8237A's: sheet2 holds all of it\n",
-    )
+    let next = text(out, at, b"    the state is an Intel 8237A's: ");
+    let next = text(out, next, form2);
+    text(out, next, b" holds all of it\n")
 }
 
-fn of_waits(out: &mut [u8], at: usize, waits: u8) -> usize {
+fn of_waits(out: &mut [u8], at: usize, waits: u8, form2: &[u8]) -> usize {
     if waits == 0 {
         return at;
     }
     let next = text(out, at, b"    each transfer waits ");
     let next = decimal(out, next, waits as u64);
+    let next = text(out, next, b" states: ");
+    let next = text(out, next, form2);
     text(
         out,
         next,
-        b" states: sheet2 holds them, waits 0 while idle takes them away\n",
+        b" holds them, waits 0 while idle takes them away\n",
     )
 }
 
-fn of_state(out: &mut [u8], at: usize, c: Controller) -> usize {
-    let next = of_edition(out, at, c.edition);
-    of_waits(out, next, c.waits)
+// `form2` is how a sheet of form 2 is asked for.
+pub(crate) fn of_state(out: &mut [u8], at: usize, c: Controller, form2: &[u8]) -> usize {
+    let next = of_edition(out, at, c.edition, form2);
+    of_waits(out, next, c.waits, form2)
 }
 
 // Of refusals 9, 11, 14 and 15; `line` is the command's.
@@ -159,5 +160,5 @@ pub(crate) fn of_sheet(
     if same(&line[name_from..name_to], b"back") {
         return of_front(out, at, &line[from..to]);
     }
-    of_state(out, at, c)
+    of_state(out, at, c, b"sheet2")
 }

@@ -6,21 +6,21 @@ fn rows_of_controller(out: &mut [u8], at: usize) -> usize {
     text(
         out,
         at,
-        b"state               the state's 48 bytes, without edition and waits
-state HEX           take 48 bytes as the state, with no range check
-full                the state in full: edition, waits, the 48 bytes
-full HEX            take such 50 bytes as the state, with no range check
-fresh               a fresh Am9517A
-fresh E             a fresh state of edition E: 0 Am9517A, 1 Intel 8237A
-write REG BYTE      write a register, 0 to 15
-read REG            read a register
-pins P              set the DREQ pins, 0 to 15: bit 0 is channel 0's
-reset               reset
-waits N             hold each transfer for N states more, 0 to 255
-grant               grant the first entitled channel a service
-run LIMIT EOP       run it: at most LIMIT transfers, transfer EOP meets EOP, 0 none
-round K             begin up to K services, grant then run
-judge HEX           judge a log of the open service, 8 bytes a record
+        b"state                 the state's 48 bytes, without edition and waits
+state HEX             take 48 bytes as the state, with no range check
+full                  the state in full: edition, waits, the 48 bytes
+full HEX              take such 50 bytes as the state, with no range check
+fresh                 a fresh Am9517A
+fresh E               a fresh state of edition E: 0 Am9517A, 1 Intel 8237A
+write REG BYTE        write a register, 0 to 15
+read REG              read a register
+pins P                set the DREQ pins, 0 to 15: bit 0 is channel 0's
+reset                 reset
+waits N               hold each transfer for N states more, 0 to 255
+grant                 grant the first entitled channel a service
+run LIMIT EOP         run it: at most LIMIT transfers, transfer EOP meets EOP, 0 none
+round K               begin up to K services, grant then run
+judge HEX             judge a log of the open service, 8 bytes a record
 ",
     )
 }
@@ -29,12 +29,35 @@ fn rows_of_sheets(out: &mut [u8], at: usize) -> usize {
     text(
         out,
         at,
-        b"sheet N             a sheet at the end of N bytes 0xee, N at most 70000
-load HEX            read the sheet at the end of these bytes
-sheet2 N            a sheet of form 2, with edition and waits, at the end of N bytes 0xee
-load2 HEX           read the sheet of form 2 at the end of these bytes
-forward HEX N       convert the form 1 sheet at the end of HEX to form 2, into N bytes 0xee
-back HEX N          convert the form 2 sheet at the end of HEX to form 1, into N bytes 0xee
+        b"sheet N               a sheet at the end of N bytes 0xee, N at most 70000
+load HEX              read the sheet at the end of these bytes
+sheet2 N              a sheet of form 2, with edition and waits, at the end of N bytes 0xee
+load2 HEX             read the sheet of form 2 at the end of these bytes
+forward HEX N         convert the form 1 sheet at the end of HEX to form 2, into N bytes 0xee
+back HEX N            convert the form 2 sheet at the end of HEX to form 1, into N bytes 0xee
+",
+    )
+}
+
+fn rows_of_board(out: &mut [u8], at: usize) -> usize {
+    text(
+        out,
+        at,
+        b"b.state               the board: who was granted last; edition, waits and 48 bytes of each controller
+b.state HEX           take such 101 bytes as the board, with no range check
+b.fresh               a fresh board of two Am9517A
+b.fresh E0 E1         a fresh board of these editions: 0 Am9517A, 1 Intel 8237A
+b.write REG BYTE      write a register of the board, 0 to 31: from 16 on the second controller's
+b.read REG            read a register of the board
+b.pins P              set the board's DREQ pins, 0 to 255: bit 4 is channel 4's
+b.reset               reset both controllers and the arbiter
+b.waits CHIP N        as waits, of controller 0 or 1
+b.grant               grant the controller that gets the bus a service of its first entitled channel
+b.run LIMIT EOP       as run, the board's open service
+b.round K             as round, over both controllers
+b.sheet CHIP FORM N   controller 0 or 1 as a sheet of form 1 or 2 at the end of N bytes 0xee
+b.load CHIP FORM HEX  read the sheet of that form at the end of these bytes into that controller
+b.show                the board as a table
 ",
     )
 }
@@ -43,16 +66,16 @@ fn rows_of_arrays(out: &mut [u8], at: usize) -> usize {
     text(
         out,
         at,
-        b"memory N            lend the first N bytes of memory, at most 65537
-poke ADDR HEX       put bytes into memory
-peek ADDR N         show N bytes of memory
-feed HEX            append bytes to the device's queue, at most 70000 in all
-fill N BYTE         append N copies of a byte to it
-room N BYTE         a new device room of N bytes, at most 70000
-out ADDR N          show N bytes of the room
-dump ADDR N         memory in rows, with addresses and letters, at most 16384
-queue               show the bytes of the device's queue
-empty               empty it
+        b"memory N              lend the first N bytes of memory, at most 65537
+poke ADDR HEX         put bytes into memory
+peek ADDR N           show N bytes of memory
+feed HEX              append bytes to the device's queue, at most 70000 in all
+fill N BYTE           append N copies of a byte to it
+room N BYTE           a new device room of N bytes, at most 70000
+out ADDR N            show N bytes of the room
+dump ADDR N           memory in rows, with addresses and letters, at most 16384
+queue                 show the bytes of the device's queue
+empty                 empty it
 ",
     )
 }
@@ -61,17 +84,17 @@ fn rows_of_files(out: &mut [u8], at: usize) -> usize {
     text(
         out,
         at,
-        b"f.poke ADDR FILE    put the bytes of a file into memory
-f.peek ADDR N FILE  write N bytes of memory to a file
-f.feed FILE         append the bytes of a file to the device's queue
-f.out ADDR N FILE   write N bytes of the room to a file
-f.sheet FILE        store the state as a sheet file of 56 bytes
-f.load FILE         read the sheet at the end of a file
-f.judge FILE        judge the log in a file
-f.sheet2 FILE       store the state as a sheet file of form 2, 58 bytes
-f.load2 FILE        read the sheet of form 2 at the end of a file
-f.forward FROM TO   convert the form 1 sheet at the end of a file into a file of form 2
-f.back FROM TO      convert the form 2 sheet at the end of a file into a file of form 1
+        b"f.poke ADDR FILE      put the bytes of a file into memory
+f.peek ADDR N FILE    write N bytes of memory to a file
+f.feed FILE           append the bytes of a file to the device's queue
+f.out ADDR N FILE     write N bytes of the room to a file
+f.sheet FILE          store the state as a sheet file of 56 bytes
+f.load FILE           read the sheet at the end of a file
+f.judge FILE          judge the log in a file
+f.sheet2 FILE         store the state as a sheet file of form 2, 58 bytes
+f.load2 FILE          read the sheet of form 2 at the end of a file
+f.forward FROM TO     convert the form 1 sheet at the end of a file into a file of form 2
+f.back FROM TO        convert the form 2 sheet at the end of a file into a file of form 1
 ",
     )
 }
@@ -80,14 +103,14 @@ fn rows_of_people(out: &mut [u8], at: usize) -> usize {
     text(
         out,
         at,
-        b"trace SWITCH        on: before the answer of run and round a line for each transfer; off: none
-log FILE            each transfer of run and round as a record of 8 bytes into a file; off: no file
-show                the state as a table
-help                this
-help COMMAND        its form, and an example
-help refusals       what the refusal numbers mean
-quit                leave
-exit                leave, too
+        b"trace SWITCH          on: before the answer of run and round a line for each transfer; off: none
+log FILE              each transfer of run and round as a record of 8 bytes into a file; off: no file
+show                  the state as a table
+help                  this
+help COMMAND          its form, and an example
+help refusals         what the refusal numbers mean
+quit                  leave
+exit                  leave, too
 ",
     )
 }
@@ -96,6 +119,7 @@ exit                leave, too
 pub fn help_rows(out: &mut [u8], at: usize) -> usize {
     let next = rows_of_controller(out, at);
     let next = rows_of_sheets(out, next);
+    let next = rows_of_board(out, next);
     let next = rows_of_arrays(out, next);
     let next = rows_of_files(out, next);
     rows_of_people(out, next)
@@ -145,6 +169,27 @@ back 000000000000000000000000000000000000000000000000000000000000000000000000000
     )
 }
 
+fn examples_of_board(out: &mut [u8], at: usize) -> usize {
+    text(
+        out,
+        at,
+        b"b.state             # and with 202 digits behind it, the board is set
+b.fresh 0 1         # an Am9517A and an Intel 8237A
+b.write 0x1b 0x46   # the mode of channel 6: single, write, up
+b.read 0x18         # the second controller's status
+b.pins 0x12         # the lines of channels 1 and 4 are high
+b.reset
+b.waits 1 3         # the second controller's memory cards are slow by three states
+b.grant
+b.run 65536 0       # to the service's end, no EOP
+b.round 600         # until nobody asks any more
+b.sheet 1 2 58      # the second controller, in form 2
+b.load 0 1 0000000000000000000000000000000000000000000000000000000000000000000000000000000f0000000300000000010030001200444d
+b.show
+",
+    )
+}
+
 fn examples_of_others(out: &mut [u8], at: usize) -> usize {
     text(
         out,
@@ -184,6 +229,7 @@ exit
 fn example_rows(out: &mut [u8], at: usize) -> usize {
     let next = examples_of_controller(out, at);
     let next = examples_of_sheets(out, next);
+    let next = examples_of_board(out, next);
     examples_of_others(out, next)
 }
 

@@ -2,16 +2,22 @@
 use console_text::page::decimal;
 use console_text::page::hex;
 use console_text::page::text;
+use std::num::wrapping_add_u64;
 use words::bits::bit;
 use words::bytes::high_byte;
 use words::bytes::low_byte;
 
 // The first text where the test holds, else the second.
-pub(crate) fn either(out: &mut [u8], at: usize, test: bool, yes: &[u8], no: &[u8]) -> usize {
+pub fn either(out: &mut [u8], at: usize, test: bool, yes: &[u8], no: &[u8]) -> usize {
     if test {
         return text(out, at, yes);
     }
     text(out, at, no)
+}
+
+// Channel n of a controller whose first channel is `base`.
+pub fn channel_number(out: &mut [u8], at: usize, base: u8, n: usize) -> usize {
+    decimal(out, at, wrapping_add_u64(base as u64, n as u64))
 }
 
 pub(crate) fn hex_byte(out: &mut [u8], at: usize, b: u8) -> usize {

@@ -4,7 +4,7 @@ ghost use Prim.Native.Nat.{_≤_};
 ghost use lib.ListN.{length};
 
 // The columns of a row that hold a command's form; what it does stands behind them.
-pub const FORM: usize = 20;
+pub const FORM: usize = 22;
 
 // The byte k places behind place `at`; 0 where there is none.
 fn byte_at(s: &[u8], at: usize, k: usize) -> u8 {

@@ -1,5 +1,7 @@
-// The state as a table, a row a channel, and what the console holds beside it.
+// The state as a table, a row a channel, and what the console holds beside it. A controller's channels are told from `base` on: on a board
+// those of the second are 4 to 7.
 use crate::names::base_and_current;
+use crate::names::channel_number;
 use crate::names::command_name;
 use crate::names::edition_name;
 use crate::names::either;
@@ -30,21 +32,28 @@ fn flags(
     either(out, next, is_entitled, b"yes      ", b"-        ")
 }
 
-fn registers(out: &mut [u8], at: usize, n: usize, channel: Channel) -> usize {
-    let next = decimal(out, at, n as u64);
+fn registers(out: &mut [u8], at: usize, base: u8, n: usize, channel: Channel) -> usize {
+    let next = channel_number(out, at, base, n);
     let next = text(out, next, b"       ");
     let next = base_and_current(out, next, channel.base_address, channel.address);
     base_and_current(out, next, channel.base_count, channel.count)
 }
 
-fn channel_row(out: &mut [u8], at: usize, c: Controller, n: usize, channel: Channel) -> usize {
+fn channel_row(
+    out: &mut [u8],
+    at: usize,
+    c: Controller,
+    base: u8,
+    n: usize,
+    channel: Channel,
+) -> usize {
     let is_active = c.active(n);
     let entitled = c.entitled_set();
     let is_masked = is_set(c.mask, n);
     let is_requested = is_set(c.request, n);
     let is_tc = is_set(c.tc, n);
     let is_entitled = is_set(entitled, n);
-    let next = registers(out, at, n, channel);
+    let next = registers(out, at, base, n, channel);
     let next = flags(
         out,
         next,
@@ -58,15 +67,15 @@ fn channel_row(out: &mut [u8], at: usize, c: Controller, n: usize, channel: Chan
     byte(out, next, b'\n')
 }
 
-fn channel_rows(out: &mut [u8], at: usize, c: Controller) -> usize {
+pub fn channel_rows(out: &mut [u8], at: usize, c: Controller, base: u8) -> usize {
     let first = c.channels[0];
-    let next = channel_row(out, at, c, 0, first);
+    let next = channel_row(out, at, c, base, 0, first);
     let second = c.channels[1];
-    let next = channel_row(out, next, c, 1, second);
+    let next = channel_row(out, next, c, base, 1, second);
     let third = c.channels[2];
-    let next = channel_row(out, next, c, 2, third);
+    let next = channel_row(out, next, c, base, 2, third);
     let fourth = c.channels[3];
-    channel_row(out, next, c, 3, fourth)
+    channel_row(out, next, c, base, 3, fourth)
 }
 
 fn edition_row(out: &mut [u8], at: usize, edition: u8) -> usize {
@@ -87,22 +96,23 @@ fn waits_row(out: &mut [u8], at: usize, waits: u8) -> usize {
     byte(out, next, b'\n')
 }
 
-fn command_rows(out: &mut [u8], at: usize, command: u8) -> usize {
+fn command_rows(out: &mut [u8], at: usize, command: u8, base: u8) -> usize {
     let next = text(out, at, b"command  ");
     let next = command_name(out, next, command);
     let next = either(
         out,
         next,
         bit(command, 0) == 1,
-        b"\n         memory-to-memory on, ",
-        b"\n         memory-to-memory off, ",
+        b"\n         memory-to-memory on, channel ",
+        b"\n         memory-to-memory off, channel ",
     );
+    let next = channel_number(out, next, base, 0);
     either(
         out,
         next,
         bit(command, 1) == 1,
-        b"channel 0 address hold on\n",
-        b"channel 0 address hold off\n",
+        b" address hold on\n",
+        b" address hold off\n",
     )
 }
 
@@ -112,9 +122,9 @@ fn temporary(out: &mut [u8], at: usize, b: u8) -> usize {
     byte(out, next, b'\n')
 }
 
-fn other_row(out: &mut [u8], at: usize, c: Controller) -> usize {
+fn other_row(out: &mut [u8], at: usize, c: Controller, base: u8) -> usize {
     let next = text(out, at, b"lowest   channel ");
-    let next = decimal(out, next, c.lowest as u64);
+    let next = channel_number(out, next, base, c.lowest as usize);
     let next = text(out, next, b"    flip-flop ");
     let next = decimal(out, next, c.flip_flop as u64);
     temporary(out, next, c.temporary)
@@ -129,22 +139,21 @@ fn latch(out: &mut [u8], at: usize, c: Controller) -> usize {
     byte(out, next, b'\n')
 }
 
-fn service_row(out: &mut [u8], at: usize, c: Controller) -> usize {
+fn service_row(out: &mut [u8], at: usize, c: Controller, base: u8) -> usize {
     if c.in_service == 0 {
         return text(out, at, b"service  none\n");
     }
     let next = text(out, at, b"service  channel ");
-    let next = decimal(out, next, c.serving as u64);
+    let next = channel_number(out, next, base, c.serving as usize);
     latch(out, next, c)
 }
 
-fn service_rows(out: &mut [u8], at: usize, c: Controller) -> usize {
-    let next = other_row(out, at, c);
-    service_row(out, next, c)
+fn service_rows(out: &mut [u8], at: usize, c: Controller, base: u8) -> usize {
+    let next = other_row(out, at, c, base);
+    service_row(out, next, c, base)
 }
 
-fn range_row(out: &mut [u8], at: usize, c: Controller) -> usize {
-    let valid = c.valid();
+pub fn range_row(out: &mut [u8], at: usize, valid: bool) -> usize {
     either(
         out,
         at,
@@ -154,20 +163,29 @@ fn range_row(out: &mut [u8], at: usize, c: Controller) -> usize {
     )
 }
 
-pub fn show(c: Controller, out: &mut [u8], at: usize) -> usize {
-    let next = text(
+pub fn heading(out: &mut [u8], at: usize) -> usize {
+    text(
         out,
         at,
         b"        address    count
 channel base now   base now   line   mask request TC  entitled mode
 ",
-    );
-    let next = channel_rows(out, next, c);
-    let next = edition_row(out, next, c.edition);
+    )
+}
+
+// What a controller has but once.
+pub fn other_rows(out: &mut [u8], at: usize, c: Controller, base: u8) -> usize {
+    let next = edition_row(out, at, c.edition);
     let next = waits_row(out, next, c.waits);
-    let next = command_rows(out, next, c.command);
-    let next = service_rows(out, next, c);
-    range_row(out, next, c)
+    let next = command_rows(out, next, c.command, base);
+    service_rows(out, next, c, base)
+}
+
+pub fn show(c: Controller, out: &mut [u8], at: usize) -> usize {
+    let next = heading(out, at);
+    let next = channel_rows(out, next, c, 0);
+    let next = other_rows(out, next, c, 0);
+    range_row(out, next, c.valid())
 }
 
 // What the console holds beside the controller.

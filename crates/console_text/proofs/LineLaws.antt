@@ -32,11 +32,13 @@ end-none [] h = (refl, omega arith)
 end-none (x ∷ xs) h = absurd (omega arith)
 
 -- the words of a line, one behind the other
-pub words-so : (s : List ℕ) (name one two more : Span) (n : ℕ) → name ≡ wordAt s 0 → one ≡ wordAt s (name .to) → two ≡ wordAt s (one .to)
-    → more ≡ wordAt s (two .to) → n ≡ oneIf one + oneIf two + oneIf more → _≡_ {A = Words} (record { name = name; one = one; two = two; count = n }) (wordsIn s)
-words-so s name one two more n a b c d e =
-    let count : n ≡ oneIf one + oneIf two + oneIf (wordAt s (two .to)) = e ∙ ap (λ (w : Span). oneIf one + oneIf two + oneIf w) d in
-    ap (λ (k : ℕ). record { name = name; one = one; two = two; count = k }) count
-    ∙ ap (λ (w : Span). wordsFrom s name one w) c
-    ∙ ap (λ (w : Span). wordsFrom s name w (wordAt s (w .to))) b
-    ∙ ap (λ (w : Span). let x = wordAt s (w .to) in wordsFrom s w x (wordAt s (x .to))) a
+pub words-so : (s : List ℕ) (name one two three more : Span) (n : ℕ) → name ≡ wordAt s 0 → one ≡ wordAt s (name .to) → two ≡ wordAt s (one .to)
+    → three ≡ wordAt s (two .to) → more ≡ wordAt s (three .to) → n ≡ oneIf one + oneIf two + oneIf three + oneIf more
+    → _≡_ {A = Words} (record { name = name; one = one; two = two; three = three; count = n }) (wordsIn s)
+words-so s name one two three more n a b c d m e =
+    let count : n ≡ oneIf one + oneIf two + oneIf three + oneIf (wordAt s (three .to)) = e ∙ ap (λ (w : Span). oneIf one + oneIf two + oneIf three + oneIf w) m in
+    ap (λ (k : ℕ). record { name = name; one = one; two = two; three = three; count = k }) count
+    ∙ ap (λ (w : Span). wordsFrom s name one two w) d
+    ∙ ap (λ (w : Span). wordsFrom s name one w (wordAt s (w .to))) c
+    ∙ ap (λ (w : Span). let x = wordAt s (w .to) in wordsFrom s name w x (wordAt s (x .to))) b
+    ∙ ap (λ (w : Span). let x = wordAt s (w .to) in let y = wordAt s (x .to) in wordsFrom s w x y (wordAt s (y .to))) a

@@ -8,11 +8,13 @@ use lib.ListN.{length}
 use Rattle.words.specs.Choice.{when, _and_}
 use Rattle.console_text.specs.Text.{codes, same}
 use Rattle.console_text.specs.declared.forms.Command.{Command}
-use Rattle.console_text.specs.declared.forms.Command.the-variants.{Nothing, Chip, Arrays, Services, People, Unknown}
+use Rattle.console_text.specs.declared.forms.Command.the-variants.{Nothing, Chip, Arrays, Services, Board, BoardServices, People, Unknown}
 use Rattle.console_text.specs.declared.forms.ChipCommand.the-variants.{State, SetState, Full, SetFull, Fresh, FreshOf, Write, Read, Pins, Reset, Waits, Grant, Sheet, Load, Sheet2, Load2, Forward, Back}
 use Rattle.console_text.specs.declared.forms.ArrayCommand.the-variants.{Memory, Poke, Peek, Feed, Fill, Room, Out, Dump, Queue, Empty}
 use Rattle.console_text.specs.declared.forms.ServiceCommand.the-variants.{Run, Round, Judge}
-use Rattle.console_text.specs.declared.forms.PeopleCommand.the-variants.{Show, Help, HelpOn}
+use Rattle.console_text.specs.declared.forms.BoardCommand.the-variants as board
+use Rattle.console_text.specs.declared.forms.BoardServiceCommand.the-variants as boardService
+use Rattle.console_text.specs.declared.forms.PeopleCommand.the-variants.{Show, BoardShow, Help, HelpOn}
 
 -- a line of this name with n further words is the command of that name with k
 unfoldable pub isForm : List ℕ → ℕ → List ℕ → ℕ → Bool
@@ -80,6 +82,26 @@ sheetRows =
     ∷ row "back" 2 (Chip Back)
     ∷ []
 
+-- on the board
+abbrev pub boardRows : List Row
+boardRows =
+    row "b.state" 0 (Board board.State)
+    ∷ row "b.state" 1 (Board board.SetState)
+    ∷ row "b.fresh" 0 (Board board.Fresh)
+    ∷ row "b.fresh" 2 (Board board.FreshOf)
+    ∷ row "b.write" 2 (Board board.Write)
+    ∷ row "b.read" 1 (Board board.Read)
+    ∷ row "b.pins" 1 (Board board.Pins)
+    ∷ row "b.reset" 0 (Board board.Reset)
+    ∷ row "b.waits" 2 (Board board.Waits)
+    ∷ row "b.grant" 0 (Board board.Grant)
+    ∷ row "b.sheet" 3 (Board board.Sheet)
+    ∷ row "b.load" 3 (Board board.Load)
+    ∷ row "b.run" 2 (BoardServices boardService.Run)
+    ∷ row "b.round" 1 (BoardServices boardService.Round)
+    ∷ row "b.show" 0 (People BoardShow)
+    ∷ []
+
 -- for people
 abbrev pub peopleRows : List Row
 peopleRows =
@@ -95,4 +117,4 @@ peopleRows =
 unfoldable pub commandOf : List ℕ → ℕ → Command
 commandOf name n =
     when (eqb (length name) 0) Nothing
-    (pick controllerRows name n (pick arrayRows name n (pick serviceRows name n (pick sheetRows name n (pick peopleRows name n Unknown)))))
+    (pick controllerRows name n (pick arrayRows name n (pick serviceRows name n (pick sheetRows name n (pick boardRows name n (pick peopleRows name n Unknown))))))

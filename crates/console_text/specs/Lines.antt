@@ -40,16 +40,17 @@ cut s w = take (w .to - w .from) (drop (w .from) s)
 unfoldable pub oneIf : Span → ℕ
 oneIf w = when (ltb (w .from) (w .to)) 1 0
 
--- a line's first word, the two behind it, and how many there are behind the first, 3 standing for more than two
-abbrev pub wordsFrom : List ℕ → Span → Span → Span → Words
-wordsFrom s name one two =
-    record { name = name; one = one; two = two; count = oneIf one + oneIf two + oneIf (wordAt s (two .to)) }
+-- a line's first word, the three behind it, and how many there are behind the first, 4 standing for more than three
+abbrev pub wordsFrom : List ℕ → Span → Span → Span → Span → Words
+wordsFrom s name one two three =
+    record { name = name; one = one; two = two; three = three; count = oneIf one + oneIf two + oneIf three + oneIf (wordAt s (three .to)) }
 
 abbrev pub wordsIn : List ℕ → Words
 wordsIn s =
     let name = wordAt s 0 in
     let one = wordAt s (name .to) in
-    wordsFrom s name one (wordAt s (one .to))
+    let two = wordAt s (one .to) in
+    wordsFrom s name one two (wordAt s (two .to))
 
 -- the length of a line without a carriage return at its end
 unfoldable pub endOf : List ℕ → ℕ

@@ -2,15 +2,18 @@
 use crate::line::same;
 ghost use mathlib.Core.Path.{_≡_};
 ghost use Rattle.words.specs.Choice.{when};
-ghost use Rattle.console_text.specs.declared.forms.Command.the-variants.{Chip, Arrays, Services, People};
-ghost use Rattle.console_text.specs.Commands.{isForm, pick, controllerRows, arrayRows, serviceRows, sheetRows, peopleRows, commandOf};
+ghost use Rattle.console_text.specs.declared.forms.Command.the-variants.{Chip, Arrays, Services, Board, BoardServices, People};
+ghost use Rattle.console_text.specs.Commands.{isForm, pick, controllerRows, arrayRows, serviceRows, sheetRows, boardRows, peopleRows, commandOf};
 
-// A command, by what it is given: the controller, the arrays, all of them, or nothing; a line of no words; anything else.
+// A command, by what it is given: the controller, the arrays, all of them, the board, that and the arrays, or nothing; a line of no
+// words; anything else.
 pub enum Command {
     Nothing,
     Chip(ChipCommand),
     Arrays(ArrayCommand),
     Services(ServiceCommand),
+    Board(BoardCommand),
+    BoardServices(BoardServiceCommand),
     People(PeopleCommand),
     Unknown,
 }
@@ -58,9 +61,32 @@ pub enum ServiceCommand {
     Judge,
 }
 
+// On the board.
+pub enum BoardCommand {
+    State,
+    SetState,
+    Fresh,
+    FreshOf,
+    Write,
+    Read,
+    Pins,
+    Reset,
+    Waits,
+    Grant,
+    Sheet,
+    Load,
+}
+
+// On the board with the arrays lent.
+pub enum BoardServiceCommand {
+    Run,
+    Round,
+}
+
 // For people.
 pub enum PeopleCommand {
     Show,
+    BoardShow,
     Help,
     HelpOn,
 }
@@ -115,6 +141,32 @@ fn service(
     ensures { λ r. ⌜ r ≡ when (isForm (now (name .entry)) n (now (word .entry)) k) (Services command) other ⌝ }
 {
     row(name, n, word, k, Command::Services(command), other)
+}
+
+fn board(
+    name: &[u8],
+    n: usize,
+    word: &[u8],
+    k: usize,
+    command: BoardCommand,
+    other: Command,
+) -> Command
+    ensures { λ r. ⌜ r ≡ when (isForm (now (name .entry)) n (now (word .entry)) k) (Board command) other ⌝ }
+{
+    row(name, n, word, k, Command::Board(command), other)
+}
+
+fn board_service(
+    name: &[u8],
+    n: usize,
+    word: &[u8],
+    k: usize,
+    command: BoardServiceCommand,
+    other: Command,
+) -> Command
+    ensures { λ r. ⌜ r ≡ when (isForm (now (name .entry)) n (now (word .entry)) k) (BoardServices command) other ⌝ }
+{
+    row(name, n, word, k, Command::BoardServices(command), other)
 }
 
 fn people(
@@ -178,6 +230,26 @@ fn sheet_row(name: &[u8], n: usize, other: Command) -> Command
     chip(name, n, b"sheet", 1, ChipCommand::Sheet, no)
 }
 
+fn board_row(name: &[u8], n: usize, other: Command) -> Command
+    ensures { λ r. ⌜ r ≡ pick boardRows (now (name .entry)) n other ⌝ }
+{
+    let no = people(name, n, b"b.show", 0, PeopleCommand::BoardShow, other);
+    let no = board_service(name, n, b"b.round", 1, BoardServiceCommand::Round, no);
+    let no = board_service(name, n, b"b.run", 2, BoardServiceCommand::Run, no);
+    let no = board(name, n, b"b.load", 3, BoardCommand::Load, no);
+    let no = board(name, n, b"b.sheet", 3, BoardCommand::Sheet, no);
+    let no = board(name, n, b"b.grant", 0, BoardCommand::Grant, no);
+    let no = board(name, n, b"b.waits", 2, BoardCommand::Waits, no);
+    let no = board(name, n, b"b.reset", 0, BoardCommand::Reset, no);
+    let no = board(name, n, b"b.pins", 1, BoardCommand::Pins, no);
+    let no = board(name, n, b"b.read", 1, BoardCommand::Read, no);
+    let no = board(name, n, b"b.write", 2, BoardCommand::Write, no);
+    let no = board(name, n, b"b.fresh", 2, BoardCommand::FreshOf, no);
+    let no = board(name, n, b"b.fresh", 0, BoardCommand::Fresh, no);
+    let no = board(name, n, b"b.state", 1, BoardCommand::SetState, no);
+    board(name, n, b"b.state", 0, BoardCommand::State, no)
+}
+
 fn people_row(name: &[u8], n: usize, other: Command) -> Command
     ensures { λ r. ⌜ r ≡ pick peopleRows (now (name .entry)) n other ⌝ }
 {
@@ -196,6 +268,7 @@ pub fn command_of(name: &[u8], n: usize) -> Command
         return Command::Nothing;
     }
     let no = people_row(name, n, Command::Unknown);
+    let no = board_row(name, n, no);
     let no = sheet_row(name, n, no);
     let no = service_row(name, n, no);
     let no = array_row(name, n, no);

@@ -79,26 +79,29 @@ fn one_if(w: Span) -> usize
     if w.from < w.to { 1 } else { 0 }
 }
 
-// A line's first word, the two behind it, and how many there are behind the first; 3 stands for more than two.
+// A line's first word, the three behind it, and how many there are behind the first; 4 stands for more than three.
 pub struct Words {
     pub name: Span,
     pub one: Span,
     pub two: Span,
+    pub three: Span,
     pub count: usize,
 }
 
 pub fn words_in(s: &[u8]) -> Words
-    ensures { λ r. ⌜ (r ≡ wordsIn (now (s .entry))) × (r .name .from ≤ r .name .to) × (r .name .to ≤ length (now (s .entry))) × (r .one .from ≤ r .one .to) × (r .one .to ≤ length (now (s .entry))) × (r .two .from ≤ r .two .to) × (r .two .to ≤ length (now (s .entry))) ⌝ }
+    ensures { λ r. ⌜ (r ≡ wordsIn (now (s .entry))) × (r .name .from ≤ r .name .to) × (r .name .to ≤ length (now (s .entry))) × (r .one .from ≤ r .one .to) × (r .one .to ≤ length (now (s .entry))) × (r .two .from ≤ r .two .to) × (r .two .to ≤ length (now (s .entry))) × (r .three .from ≤ r .three .to) × (r .three .to ≤ length (now (s .entry))) ⌝ }
 {
     let name = word(s, 0);
     let one = word(s, name.to);
     let two = word(s, one.to);
-    let more = word(s, two.to);
-    let count = one_if(one) + one_if(two) + one_if(more);
+    let three = word(s, two.to);
+    let more = word(s, three.to);
+    let count = one_if(one) + one_if(two) + one_if(three) + one_if(more);
     Words {
         name,
         one,
         two,
+        three,
         count,
     }
 }

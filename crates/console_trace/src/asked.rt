@@ -88,6 +88,8 @@ pub fn begun(line: &[u8], c: Controller, left: usize) -> Course {
         Command::Nothing => nothing(c),
         Command::Chip(_) => nothing(c),
         Command::Arrays(_) => nothing(c),
+        Command::Board(_) => nothing(c),
+        Command::BoardServices(_) => nothing(c),
         Command::People(_) => nothing(c),
         Command::Unknown => nothing(c),
     }

@@ -76,6 +76,7 @@ fn named(is_asking: bool, name: &[u8], notes: &mut [u8]) -> usize {
 
 fn holding(console: Console) -> Held {
     let controller = console.controller;
+    let board = console.board;
     let queued = if console.end < console.start {
         0
     } else {
@@ -83,6 +84,7 @@ fn holding(console: Console) -> Held {
     };
     Held {
         controller,
+        board,
         lent: console.lent,
         queued,
         size: console.size,

@@ -8,7 +8,7 @@ use Rattle.console_arrays.proofs.runs.run.Tie as tie
 returns : tie.Need-returns
 unfolding numbered
 returns c =
-    let at-run-said = c .before .before .before in let at-run = at-run-said .before .before .before .before .before .before in
+    let at-run-said = c .before .before .before in let at-run = at-run-said .before .before .before .before .before .before .before in
     let at-meets = at-run .before .before .before .before in let at-most = at-meets .before .before .before in
     let at-number-of2 = at-most .before .before in let at-number-of = at-number-of2 .before in
     simp (sym (at-number-of .number-of .ensures) ∙ at-most .most .given .1, sym (at-number-of2 .number-of2 .ensures) ∙ at-meets .meets .given .1) (ran-so _ _ _ _ _ _ (at-run .run .ensures .0) (at-run-said .run-said .ensures))

@@ -7,7 +7,7 @@ use Rattle.console_arrays.proofs.runs.run_said.Tie as tie
 returns : tie.Need-returns
 unfolding runText
 returns c =
-    let at-counts-said = c .before .before in let at-reason-said = at-counts-said .before .before .before .before .before in
+    let at-counts-said = c .before .before in let at-reason-said = at-counts-said .before .before .before .before in
     let at-answer = at-reason-said .before .before .before in
     simp (at-answer .answer .given .1) (put-both _ _ _ _ _ (at-reason-said .reason-said .ensures) (at-counts-said .counts-said .ensures))
 

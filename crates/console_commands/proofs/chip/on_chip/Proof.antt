@@ -1,4 +1,5 @@
 use mathlib.Core.Path.{ap}
+use Rattle.am9517.specs.declared.Controller.{Controller}
 use Rattle.console_chip.specs.Answers.{Said}
 use Rattle.console_commands.specs.Needs.{withController}
 use borrow.Author.Needs.{needs}
@@ -9,7 +10,7 @@ returns : tie.Need-returns
 returns c =
     let at-chip-said = c .before .before .before .before .before in
     let entry = at-chip-said .before .before .before .before .before .before .before .before in
-    (ap (λ (s : Said). withController (entry .args .console) (s .controller)) (at-chip-said .chip-said .ensures), ap (λ (s : Said). s .page) (at-chip-said .chip-said .ensures))
+    (ap (λ (s : Said Controller). withController (entry .args .console) (s .next)) (at-chip-said .chip-said .ensures), ap (λ (s : Said Controller). s .page) (at-chip-said .chip-said .ensures))
 
 pub on-chip-spec : {M : Type 1} → statement M
 on-chip-spec = tie.close (tie.spec (search needs) (search needs) (search needs) returns)

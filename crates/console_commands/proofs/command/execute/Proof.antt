@@ -28,20 +28,21 @@ returns-2 c =
 
 perform-requires : tie.Need-perform-requires
 perform-requires c κs =
-    let at-words-in = c .before .before .before .before .before .before .before .before .before in let at-if2 = at-words-in .before in
+    let at-words-in = c .before .before .before .before .before .before .before .before .before .before in let at-if2 = at-words-in .before in
     let at-if1 = at-if2 .before in let at-stands = at-if1 .before in let entry = at-stands .before .before .before .before .before .before .before in
-    let all = standing _ _ _ _ _ (sym (at-stands .stands .ensures) ∙ not-false _ (at-if1 .if1 .left)) in (all .0, all .1, omega (arith, at-if2 .if2 .left, held-length (entry .args .line .now) (at-words-in .words-in .result .one .from) (at-words-in .words-in .result .one .to) (at-words-in .words-in .ensures .4)))
+    let all = standing _ _ _ _ _ (sym (at-stands .stands .ensures) ∙ not-false _ (at-if1 .if1 .left)) in let line = entry .args .line .now in let words = at-words-in .words-in .result in (all .0, all .1, omega (arith, at-if2 .if2 .left, held-length line (words .one .from) (words .one .to) (at-words-in .words-in .ensures .4)), omega (arith, at-if2 .if2 .left, held-length line (words .three .from) (words .three .to) (at-words-in .words-in .ensures .8)))
 
 returns-3 : tie.Need-returns-3
 returns-3 c =
     let at-newline = c .before .before in
     let at-perform = at-newline .before .before .before .before .before .before .before .before .before .before .before .before .before in
     let at-command-of = at-perform .before .before .before .before .before .before in
-    let at-words-in = at-command-of .before .before .before .before in let at-if2 = at-words-in .before in let at-if1 = at-if2 .before in
+    let at-words-in = at-command-of .before .before .before .before .before in let at-if2 = at-words-in .before in let at-if1 = at-if2 .before in
     let at-stands = at-if1 .before in let entry = at-stands .before .before .before .before .before .before .before in
-    let s = entry .args in let stood = sym (at-stands .stands .ensures) ∙ not-false _ (at-if1 .if1 .left) in record { shown = at-perform .perform .ensures .0 .shown; so = executed-so (s .line .now) (holds (s .console) (s .memory .now) (s .queue .now) (s .room .now)) _ _ (at-words-in .words-in .result) _ (at-perform .perform .result) (at-perform .perform .last .1 .1 .1 .1 .0) (at-perform .perform .last .1 .1 .1 .1 .1 .0) (at-perform .perform .last .1 .1 .1 .1 .1 .1 .0) _ _ _ _ stood (at-if2 .if2 .left) (at-words-in .words-in .ensures .0) (at-command-of .command-of .ensures) (at-perform .perform .ensures .0 .so) (at-newline .newline .ensures); stood = stands-so _ _ _ _ _ (at-perform .perform .ensures .1) (standing _ _ _ _ _ stood .1) ∙ sym stood }
+    let s = entry .args in let stood = sym (at-stands .stands .ensures) ∙ not-false _ (at-if1 .if1 .left) in record { shown = at-perform .perform .ensures .0 .shown; so = executed-so (s .line .now) (holds (s .console) (s .memory .now) (s .queue .now) (s .room .now)) _ _ (at-words-in .words-in .result) _ (at-perform .perform .result) (at-perform .perform .last .1 .1 .1 .1 .1 .0) (at-perform .perform .last .1 .1 .1 .1 .1 .1 .0) (at-perform .perform .last .1 .1 .1 .1 .1 .1 .1 .0) _ _ _ _ stood (at-if2 .if2 .left) (at-words-in .words-in .ensures .0) (at-command-of .command-of .ensures) (at-perform .perform .ensures .0 .so) (at-newline .newline .ensures); stood = stands-so _ _ _ _ _ (at-perform .perform .ensures .1) (standing _ _ _ _ _ stood .1) ∙ sym stood }
 
 pub execute-spec : {M : Type 1} → statement M
 execute-spec = tie.close (tie.spec (search needs) (search needs) (search needs) returns (search needs) (search needs) returns-2 (search needs)
     (search needs) (search needs) (search needs) (search needs) (search needs) (search needs) (search needs) (search needs) (search needs)
-    (search needs) perform-requires (search needs) (search needs) (search needs) (search needs) (search needs) (search needs) returns-3)
+    (search needs) (search needs) (search needs) (search needs) perform-requires (search needs) (search needs) (search needs) (search needs)
+    (search needs) (search needs) returns-3)
