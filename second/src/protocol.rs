@@ -1,5 +1,7 @@
-//! The line protocol: one console, which answers each command line with one line.
+//! The line protocol: one console, which answers each command line with one line. The board's
+//! commands are in [`crate::board_lines`].
 
+use crate::board::Board;
 use crate::faults::{self, Fault};
 use crate::judge::Verdict;
 use crate::record::{Record, READ, WRITE};
@@ -21,6 +23,7 @@ const SLICE_BYTE: u8 = 0xEE;
 
 pub struct Console {
     pub controller: Controller,
+    pub board: Board,
     pub memory: Vec<u8>,
     pub lent: usize,
     pub queue: VecDeque<u8>,
@@ -30,7 +33,7 @@ pub struct Console {
 }
 
 /// A command that changes nothing.
-enum Fail {
+pub(crate) enum Fail {
     Error,
     Refused(Refusal),
 }
@@ -41,7 +44,7 @@ impl From<Refusal> for Fail {
     }
 }
 
-type Answer = Result<String, Fail>;
+pub(crate) type Answer = Result<String, Fail>;
 
 impl Default for Console {
     fn default() -> Console {
@@ -53,6 +56,7 @@ impl Console {
     pub fn new() -> Console {
         Console {
             controller: Controller::fresh(),
+            board: Board::fresh(),
             memory: vec![0; ARRAY_LENGTH],
             lent: LENT_AT_START,
             queue: VecDeque::new(),
@@ -105,7 +109,7 @@ impl Console {
             [b"back", hex, length] => self.back(&bytes(hex)?, number(length)?),
             [b"judge", hex] => self.judge(&bytes(hex)?),
             [b"judge"] if faults::on(Fault::JudgeBareLine) => self.judge(&[]),
-            _ => Err(Fail::Error),
+            _ => self.obey_board(words),
         }
     }
 
@@ -158,6 +162,9 @@ impl Console {
         let mut next = Controller::fresh_of(edition);
         if faults::on(Fault::FreshKeepsWaits) {
             next.waits = self.controller.waits;
+        }
+        if faults::on(Fault::FreshMakesBoard) {
+            self.board = Board::fresh();
         }
         self.take(next)
     }
@@ -239,21 +246,27 @@ impl Console {
         ok()
     }
 
-    fn run(&mut self, limit: u32, eop: u32) -> Answer {
+    /// What runs and rounds are lent: memory, the queue's bytes, and the room that is left.
+    pub(crate) fn lent_to_runs(&mut self) -> (&mut [u8], &[u8], &mut [u8]) {
         let memory = &mut self.memory[..self.lent];
         let input = self.queue.make_contiguous();
         let room = &mut self.room[self.position..];
-        let (next, stop, tally) = self.controller.run(memory, input, room, limit, eop)?;
+        (memory, input, room)
+    }
+
+    fn run(&mut self, limit: u32, eop: u32) -> Answer {
+        let controller = self.controller;
+        let (memory, input, room) = self.lent_to_runs();
+        let (next, stop, tally) = controller.run(memory, input, room, limit, eop)?;
         self.controller = next;
         self.account(&tally);
         Ok(run_answer(stop, &tally))
     }
 
     fn round(&mut self, k: u32) -> Answer {
-        let memory = &mut self.memory[..self.lent];
-        let input = self.queue.make_contiguous();
-        let room = &mut self.room[self.position..];
-        let (next, stop, tally) = self.controller.round(memory, input, room, k)?;
+        let controller = self.controller;
+        let (memory, input, room) = self.lent_to_runs();
+        let (next, stop, tally) = controller.round(memory, input, room, k)?;
         self.controller = next;
         self.account(&tally.total);
         Ok(round_answer(stop, &tally))
@@ -261,7 +274,7 @@ impl Console {
 
     /// "Bytes used leave the queue; bytes written go to the room from its write position on, which
     /// moves behind them".
-    fn account(&mut self, tally: &Tally) {
+    pub(crate) fn account(&mut self, tally: &Tally) {
         self.queue.drain(..tally.used);
         self.position += tally.written;
     }
@@ -348,15 +361,15 @@ fn good_part(log: &[u8], verdict: Verdict) -> &[u8] {
 }
 
 /// "a slice of N bytes 0xEE (N at most 70,000)"
-fn new_slice(length: u64) -> Result<Vec<u8>, Fail> {
+pub(crate) fn new_slice(length: u64) -> Result<Vec<u8>, Fail> {
     Ok(vec![SLICE_BYTE; at_most(length, MOST_BYTES)?])
 }
 
-fn ok() -> Answer {
+pub(crate) fn ok() -> Answer {
     Ok("ok".to_string())
 }
 
-fn run_answer(stop: Stop, tally: &Tally) -> String {
+pub(crate) fn run_answer(stop: Stop, tally: &Tally) -> String {
     format!("{} {}", stop.word(), tally_answer(tally))
 }
 
@@ -373,7 +386,7 @@ fn judge_answer(verdict: Verdict) -> String {
     }
 }
 
-fn tally_answer(tally: &Tally) -> String {
+pub(crate) fn tally_answer(tally: &Tally) -> String {
     let Tally { transfers, used, written, states } = tally;
     format!("transfers={transfers} used={used} written={written} states={states}")
 }
@@ -408,7 +421,7 @@ pub fn is_blank(line: &[u8]) -> bool {
 }
 
 /// "Numbers are decimal or `0x` hexadecimal." One beyond 64 bits fits no place of the protocol.
-fn number(word: &[u8]) -> Result<u64, Fail> {
+pub(crate) fn number(word: &[u8]) -> Result<u64, Fail> {
     let (base, digits) = match word.strip_prefix(b"0x") {
         Some(digits) => (16, digits),
         None => (10, word),
@@ -426,22 +439,22 @@ fn number(word: &[u8]) -> Result<u64, Fail> {
 }
 
 /// "REG, P, LIMIT, EOP and K take any number below 2^32; a larger one is `error`."
-fn number32(word: &[u8]) -> Result<u32, Fail> {
+pub(crate) fn number32(word: &[u8]) -> Result<u32, Fail> {
     u32::try_from(number(word)?).map_err(|_| Fail::Error)
 }
 
 /// "a byte over 255" is `error`.
-fn byte(word: &[u8]) -> Result<u8, Fail> {
+pub(crate) fn byte(word: &[u8]) -> Result<u8, Fail> {
     u8::try_from(number(word)?).map_err(|_| Fail::Error)
 }
 
 /// "E over 1 is `error`".
-fn edition_of(word: &[u8]) -> Result<u8, Fail> {
+pub(crate) fn edition_of(word: &[u8]) -> Result<u8, Fail> {
     let value = at_most(number(word)?, usize::from(INTEL))?;
     Ok(value as u8)
 }
 
-fn at_most(value: u64, most: usize) -> Result<usize, Fail> {
+pub(crate) fn at_most(value: u64, most: usize) -> Result<usize, Fail> {
     match usize::try_from(value) {
         Ok(value) if value <= most => Ok(value),
         _ => Err(Fail::Error),
@@ -449,7 +462,7 @@ fn at_most(value: u64, most: usize) -> Result<usize, Fail> {
 }
 
 /// "`HEX` is an even number of hexadecimal digits with no blanks; `-` stands for no bytes".
-fn bytes(word: &[u8]) -> Result<Vec<u8>, Fail> {
+pub(crate) fn bytes(word: &[u8]) -> Result<Vec<u8>, Fail> {
     if word == b"-" {
         return Ok(Vec::new());
     }

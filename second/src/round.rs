@@ -7,8 +7,8 @@ use crate::state::{Controller, Refusal};
 /// "A round begins up to k services (0 to 4,096)".
 pub const MOST_SERVICES: u32 = 4_096;
 /// "grant then run, limit 65,536, no EOP".
-const LIMIT: u32 = 65_536;
-const NO_EOP: u32 = 0;
+pub(crate) const LIMIT: u32 = 65_536;
+pub(crate) const NO_EOP: u32 = 0;
 
 /// How a round stops: a run that did not end, or k begun, or nobody entitled.
 #[derive(Clone, Copy, Debug, PartialEq, Eq)]
@@ -45,15 +45,7 @@ impl Controller {
         room: &mut [u8],
         k: u32,
     ) -> Result<(Controller, RoundStop, RoundTally), Refusal> {
-        self.refuse_broken()?;
-        if faults::on(Fault::MemoryBeforeNumber) {
-            refuse_memory(memory)?;
-        }
-        if k > MOST_SERVICES {
-            return Err(Refusal::TooLarge);
-        }
-        refuse_memory(memory)?;
-        self.refuse_during_service()?;
+        self.refuse_round(memory, k)?;
         let mut now = self;
         let mut tally = RoundTally::default();
         // "Before the first, k = 0 is "done" and comes before quiet."
@@ -81,6 +73,18 @@ impl Controller {
         }
         Ok((now, stop.unwrap_or(RoundStop::Done), tally))
     }
+
+    fn refuse_round(self, memory: &[u8], k: u32) -> Result<(), Refusal> {
+        self.refuse_broken()?;
+        if faults::on(Fault::MemoryBeforeNumber) {
+            refuse_memory(memory)?;
+        }
+        if k > MOST_SERVICES {
+            return Err(Refusal::TooLarge);
+        }
+        refuse_memory(memory)?;
+        self.refuse_during_service()
+    }
 }
 
 fn stop_between(now: Controller, tally: &RoundTally, k: u32) -> Option<RoundStop> {
@@ -95,8 +99,8 @@ fn stop_between(now: Controller, tally: &RoundTally, k: u32) -> Option<RoundStop
     quiet.then_some(RoundStop::Quiet)
 }
 
-/// Only those two faults could count more bytes than there are.
-fn keep_within(total: &mut Tally, input: usize, room: usize) {
+/// Only faults could count more bytes than there are.
+pub(crate) fn keep_within(total: &mut Tally, input: usize, room: usize) {
     total.used = total.used.min(input);
     total.written = total.written.min(room);
 }
@@ -115,7 +119,7 @@ fn room_behind(tally: &RoundTally) -> usize {
     tally.total.written
 }
 
-fn sum(total: Tally, part: Tally) -> Tally {
+pub(crate) fn sum(total: Tally, part: Tally) -> Tally {
     Tally {
         transfers: total.transfers + part.transfers,
         used: total.used + part.used,

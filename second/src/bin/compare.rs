@@ -27,7 +27,7 @@ Plays N scripts (1000) against CMD and against the model in this process, or the
 I shows it. --batch is the number of scripts for one process (100), --timeout the longest silence
 (60), --odd sends lines the protocol leaves open too. The first N differing scripts (3) are shrunk,
 T seconds each (60); after D differing ones (100) the comparison stops. Shrunk scripts are kept in
-FOLDER if one is named. --long plays instead the three longest rounds there are, some hundred
+FOLDER if one is named. --long plays instead the four longest rounds there are, some hundred
 million transfers each. --damage looks for each deliberate fault of the model instead, in N scripts
 (2000).
 

@@ -11,9 +11,10 @@ const READ_BLOCK: u8 = 0x88;
 const PIECE: usize = 64;
 
 impl Writer {
-    /// State with its edition and waits, memory, room, write position and queue.
+    /// State with its edition and waits, board, memory, room, write position and queue.
     pub fn write_end(&mut self) {
         self.say_plainly("full");
+        self.say_plainly("b.state");
         self.say_plainly(&format!("peek 0 {ARRAY_LENGTH}"));
         let room = self.console.room.len();
         self.say_plainly(&format!("out 0 {room}"));
@@ -60,9 +61,9 @@ impl Writer {
 }
 
 /// Lines that bring a console whose queue is empty and whose memory is `memory` to its start.
-/// `fresh` brings edition 0 and waits 0 back.
+/// `fresh` brings edition 0 and waits 0 back, `b.fresh` the board.
 pub fn lines_between(memory: &[u8]) -> Vec<Line> {
-    let mut lines = vec![plain("fresh"), plain("memory 65536"), plain("room 0 0")];
+    let mut lines = ["fresh", "b.fresh", "memory 65536", "room 0 0"].map(plain).to_vec();
     let mut start = 0;
     while start < memory.len() {
         let end = end_of_used(memory, start);

@@ -42,7 +42,7 @@ impl Writer {
 
     /// A run most often, or a log of the service that was just begun.
     pub fn run_or_judge(&mut self) {
-        if self.random.chance(80) || !self.controller().in_service() {
+        if self.random.chance(80) || self.on_board() || !self.controller().in_service() {
             return self.run();
         }
         self.judge_open_service();

@@ -1,5 +1,7 @@
 //! Scripts written from a seed, played against another program, and compared answer by answer.
 
+pub mod board_scenes;
+pub mod boards;
 pub mod comparison;
 pub mod damage;
 pub mod editions;

@@ -5,6 +5,7 @@ use super::random::Random;
 use super::values;
 use super::waiting::has_a_wide_round;
 use super::writer::{Hex, Name, Number, Script, Writer};
+use crate::board::Board;
 use crate::protocol::to_hex;
 use crate::state::{Channel, Controller, Mode, Type};
 
@@ -25,7 +26,13 @@ pub fn write_script(seed: u64, number: u64, odd: bool) -> Script {
 impl Writer {
     fn write_body(&mut self, number: u64) {
         self.budget = [2_500, 15_000, 210_000][self.random.weighted(&[80, 14, 6])];
-        let length = self.random.between(6, 60) as usize;
+        let mut length = self.random.between(6, 60) as usize;
+        if !has_a_long_log(number) {
+            self.choose_subject(number);
+        }
+        if self.on_board() {
+            length += 30;
+        }
         self.choose_editions();
         self.choose_waits();
         if has_a_wide_round(number) {
@@ -34,6 +41,9 @@ impl Writer {
         if has_a_long_log(number) {
             self.long_log();
         }
+        if self.on_board() {
+            self.open_board_script();
+        }
         if self.random.chance(70) {
             self.prepare_memory_and_device();
         }
@@ -41,7 +51,10 @@ impl Writer {
             self.long_line();
         }
         while self.lines.len() < length {
-            self.step();
+            match self.on_board() {
+                true => self.board_step(),
+                false => self.step(),
+            }
         }
     }
 
@@ -50,7 +63,7 @@ impl Writer {
     }
 
     /// One command or one scene.
-    fn step(&mut self) {
+    pub fn step(&mut self) {
         if self.random.chance(7) {
             return self.aside();
         }
@@ -143,7 +156,7 @@ impl Writer {
     }
 
     /// Things that are no operation of the controller.
-    fn aside(&mut self) {
+    pub fn aside(&mut self) {
         match self.random.below(10) {
             0..=5 => self.faulty_line(),
             6..=7 => self.blank_line(),
@@ -167,8 +180,9 @@ impl Writer {
             7 => self.sheet(),
             8 => self.master_clear(),
             9 => self.set_waits(),
-            10 => self.convert(),
-            11 => self.judge_something(),
+            10 if !self.on_board() => self.convert(),
+            11 if !self.on_board() => self.judge_something(),
+            11 => self.refused_in_several_ways(),
             _ => self.fresh(),
         }
     }
@@ -187,7 +201,7 @@ impl Writer {
         self.write(0xD, byte);
     }
 
-    fn write_some_register(&mut self) {
+    pub fn write_some_register(&mut self) {
         let channel = self.random.below(4) as u8;
         let bit = channel | (self.random.below(2) as u8) << 2;
         let byte = self.random.byte();
@@ -214,7 +228,7 @@ impl Writer {
         }
     }
 
-    fn write_command(&mut self) {
+    pub fn write_command(&mut self) {
         let command = values::command(&mut self.random);
         self.write(8, command);
         // A disabled chip still shows who requests.
@@ -223,7 +237,7 @@ impl Writer {
         }
     }
 
-    fn read_some_register(&mut self) {
+    pub fn read_some_register(&mut self) {
         let register = match self.random.weighted(&[50, 25, 10, 10, 5]) {
             0 => self.random.below(8),
             1 => 8,
@@ -262,7 +276,7 @@ impl Writer {
         };
     }
 
-    fn program_channel(&mut self) {
+    pub fn program_channel(&mut self) {
         let number = self.random.below(4) as usize;
         let mode = values::mode(&mut self.random);
         let mut plan = self.controller();
@@ -311,7 +325,7 @@ impl Writer {
     }
 
     /// Set up one channel, ask for service by line or by software, and begin it.
-    fn scene_of_one_service(&mut self) {
+    pub fn scene_of_one_service(&mut self) {
         let mut plan = self.controller();
         if self.random.chance(50) {
             plan.command = values::command(&mut self.random);
@@ -357,7 +371,7 @@ impl Writer {
         }
     }
 
-    fn scene_of_a_round(&mut self) {
+    pub fn scene_of_a_round(&mut self) {
         let mut plan = self.controller();
         if self.random.chance(60) {
             plan.command = values::command(&mut self.random);
@@ -383,7 +397,7 @@ impl Writer {
     }
 
     /// Every register a driver can read.
-    fn read_everything(&mut self) {
+    pub fn read_everything(&mut self) {
         for register in 0..8 {
             for _ in 0..2 {
                 self.say(&[Name("read"), Number(register)]);
@@ -411,10 +425,30 @@ impl Writer {
 
     /// At most so many transfers would a round of k services make.
     fn round_cost(&self, k: u64) -> u64 {
-        let now = self.controller();
-        if !now.ranges_hold() || now.in_service() {
-            return 0;
+        let mut first = 0;
+        let mut again = 1;
+        for now in self.chips_of_a_round() {
+            let (all, most) = self.cost_of_chip(now);
+            first += all;
+            again = again.max(most);
         }
+        first + k * again
+    }
+
+    /// The controller, or both chips of the board; none where a round is refused.
+    fn chips_of_a_round(&self) -> Vec<Controller> {
+        let (chips, refused) = match self.on_board() {
+            true => (self.board().chips.to_vec(), self.board().refuse_broken().is_err()),
+            false => (vec![self.controller()], !self.controller().ranges_hold()),
+        };
+        if refused || chips.iter().any(|chip| chip.in_service()) {
+            return Vec::new();
+        }
+        chips
+    }
+
+    /// The transfers of one service of each channel, and the most of a later one.
+    fn cost_of_chip(&self, now: Controller) -> (u64, u64) {
         let mut first = 0;
         let mut again = 1;
         for number in (0..4).filter(|&number| now.is_entitled(number)) {
@@ -433,7 +467,7 @@ impl Writer {
                 }
             }
         }
-        first + k * again
+        (first, again)
     }
 
     /// How many transfers the queue or the room allows this channel.
@@ -551,7 +585,7 @@ impl Writer {
         }
     }
 
-    fn lend_memory(&mut self) {
+    pub fn lend_memory(&mut self) {
         let length = self.random.pick(&[65_535, 65_537, 65_536, 0, 1, 256, 32_768, 65_538]);
         self.say(&[Name("memory"), Number(length)]);
         if self.random.chance(70) {
@@ -566,7 +600,7 @@ impl Writer {
         self.round();
     }
 
-    fn prepare_memory_and_device(&mut self) {
+    pub fn prepare_memory_and_device(&mut self) {
         for _ in 0..self.random.between(1, 3) {
             let address = self.some_address();
             self.poke_near(address);
@@ -586,7 +620,7 @@ impl Writer {
         self.say(&[Name("poke"), Number(start as u64), Hex(bytes)]);
     }
 
-    fn device(&mut self) {
+    pub fn device(&mut self) {
         let channel = self.random.below(4) as usize;
         let length = match self.random.below(6) {
             0 => 0,
@@ -602,7 +636,7 @@ impl Writer {
     }
 
     /// About so many bytes into the queue; long ones are one byte many times, most often.
-    fn feed_about(&mut self, length: u64) {
+    pub fn feed_about(&mut self, length: u64) {
         let length = if self.heavy() { length } else { length.min(400) };
         let long = length > 400 && self.random.chance(70);
         if long || self.random.chance(20) {
@@ -613,14 +647,14 @@ impl Writer {
         self.say(&[Name("feed"), Hex(bytes)]);
     }
 
-    fn new_room(&mut self, length: u64) {
+    pub fn new_room(&mut self, length: u64) {
         let length = if self.heavy() { length } else { length.min(400) };
         let byte = u64::from(self.random.byte());
         self.say(&[Name("room"), Number(length), Number(byte)]);
     }
 
     /// Look at memory or room, or change memory, at edges and beyond.
-    fn look_or_poke(&mut self) {
+    pub fn look_or_poke(&mut self) {
         let address = self.some_address();
         let place = match self.random.below(6) {
             0 => self.random.pick(&[65_535, 65_536, 65_537, 65_538, 70_000, 0xFFFF_FFFF]),
@@ -658,17 +692,18 @@ impl Writer {
 
 /// Scripts from this number on are the long ones, a fixed few.
 pub const FIRST_LONG: u64 = 1 << 40;
-pub const LONG_SCRIPTS: u64 = 3;
+pub const LONG_SCRIPTS: u64 = 4;
 
 /// Rounds of 4,096 services of 65,536 transfers: the greatest totals there are. In memory-to-memory
-/// it is a short pattern that is laid again and again; the last one has the most waits, too.
+/// it is a short pattern that is laid again and again; the last two have the most waits, too, and
+/// the very last is the board's, its chips in turns.
 fn write_long_script(number: u64) -> Script {
     let mut writer = Writer::new(Random::new(0, 0), false);
     let mut state = Controller::fresh();
     state.mask = 0;
     state.pins = 1;
     state.command = u8::from(number != FIRST_LONG);
-    state.waits = if number == FIRST_LONG + 2 { 255 } else { 0 };
+    state.waits = if number >= FIRST_LONG + 2 { 255 } else { 0 };
     for channel in &mut state.channels {
         channel.base_address = 1;
         channel.current_address = 1;
@@ -682,8 +717,14 @@ fn write_long_script(number: u64) -> Script {
         state.channels[0].current_count = 2;
     }
     writer.say_plainly("poke 1 0102030405");
-    writer.say_plainly(&format!("full {}", to_hex(&state.full())));
-    writer.say_plainly("round 4096");
+    if number == FIRST_LONG + 3 {
+        let board = Board { last: 1, chips: [state; 2] };
+        writer.say_plainly(&format!("b.state {}", to_hex(&board.bytes())));
+        writer.say_plainly("b.round 4096");
+    } else {
+        writer.say_plainly(&format!("full {}", to_hex(&state.full())));
+        writer.say_plainly("round 4096");
+    }
     writer.write_end();
     writer.finish(number)
 }

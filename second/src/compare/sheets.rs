@@ -72,6 +72,10 @@ impl Writer {
     /// `sheet` or `sheet2`.
     pub fn sheet(&mut self) {
         let form = self.some_form();
+        self.sheet_of(form);
+    }
+
+    pub fn sheet_of(&mut self, form: Form) {
         let length = self.length_for(form);
         self.say(&[writes(form), Number(length)]);
     }
@@ -134,7 +138,7 @@ impl Writer {
     }
 
     /// The bytes of the last answer, if it has some.
-    fn bytes_answered(&self) -> Option<Word> {
+    pub fn bytes_answered(&self) -> Option<Word> {
         let answer = self.lines.last()?.answer.as_deref()?;
         let bytes = answer.strip_prefix("bytes ")?;
         (bytes.len() <= LONGEST_SAID_AGAIN).then(|| Raw(bytes.to_string()))

@@ -86,8 +86,9 @@ fn smaller_lines(line: &[u8]) -> Vec<Text> {
 fn smaller_words(command: &str, index: usize, word: &str) -> Vec<String> {
     let sheet = form_read_by(command);
     let is_hex = match command {
-        "state" | "full" | "feed" | "judge" => index == 1,
+        "state" | "full" | "b.state" | "feed" | "judge" => index == 1,
         "poke" => index == 2,
+        "b.load" => index == 3,
         _ => sheet.is_some() && index == 1,
     };
     if !is_hex {
@@ -95,7 +96,13 @@ fn smaller_words(command: &str, index: usize, word: &str) -> Vec<String> {
     }
     match (bytes_of(word), sheet) {
         (Some(bytes), Some(form)) => without_front(&bytes, word, form.length()),
-        (Some(bytes), None) if matches!(command, "state" | "full") => with_a_zero(&bytes),
+        (Some(bytes), None) if command.ends_with("state") || command == "full" => {
+            with_a_zero(&bytes)
+        }
+        // A sheet of either form.
+        (Some(bytes), None) if command == "b.load" => {
+            [58, 56].iter().flat_map(|&length| without_front(&bytes, word, length)).collect()
+        }
         (Some(bytes), None) if command == "judge" => fewer_records(&bytes),
         (Some(bytes), None) => fewer_bytes(&bytes),
         (None, _) => Vec::new(),

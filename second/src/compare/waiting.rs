@@ -27,6 +27,11 @@ pub fn has_a_wide_round(number: u64) -> bool {
     number % BETWEEN_WIDE_ROUNDS == BETWEEN_WIDE_ROUNDS - 1
 }
 
+/// Of these, every second one is about the board.
+pub fn is_wide_on_board(number: u64) -> bool {
+    number / BETWEEN_WIDE_ROUNDS % 2 == 1
+}
+
 impl Writer {
     /// Some scripts have no waits, some give them to each state they make, some to half of them.
     pub fn choose_waits(&mut self) {

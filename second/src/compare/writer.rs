@@ -34,6 +34,8 @@ pub struct Writer {
     pub random: Random,
     pub console: Console,
     pub lines: Vec<Line>,
+    /// The chip of the board that the script is about now; None is the controller.
+    pub chip: Option<usize>,
     /// Transfers this script may still make.
     pub budget: u64,
     /// Of a hundred states made anew, so many are of the Intel edition.
@@ -47,20 +49,26 @@ pub struct Writer {
 impl Writer {
     pub fn new(random: Random, odd: bool) -> Writer {
         let console = Console::new();
-        Writer { random, console, lines: Vec::new(), budget: 0, intel: 0, slow: 0, odd }
+        let lines = Vec::new();
+        Writer { random, console, lines, chip: None, budget: 0, intel: 0, slow: 0, odd }
     }
 
     pub fn finish(self, number: u64) -> Script {
         Script { number, lines: self.lines, memory_left: self.console.memory }
     }
 
+    /// The controller, or the chip of the board that the script is about now.
     pub fn controller(&self) -> Controller {
-        self.console.controller
+        match self.chip {
+            None => self.console.controller,
+            Some(chip) => self.console.board.chips[chip],
+        }
     }
 
     /// Say a command in some spelling.
     pub fn say(&mut self, words: &[Word]) {
-        let text = self.spell(words);
+        let words = self.addressed(words);
+        let text = self.spell(&words);
         let text = self.dress(text);
         self.say_exactly(text);
     }
@@ -74,6 +82,7 @@ impl Writer {
         let answer = self.console.answer(&text);
         if let Some(answer) = &answer {
             self.budget = self.budget.saturating_sub(transfers_in(answer));
+            self.chip = self.chip.map(|chip| chip_granted(answer).unwrap_or(chip));
         }
         self.lines.push(Line { text, answer });
     }
@@ -149,6 +158,12 @@ impl Writer {
         }
         text
     }
+}
+
+/// The chip of the channel that an answer tells.
+fn chip_granted(answer: &str) -> Option<usize> {
+    let channel: usize = answer.strip_prefix("channel ")?.parse().ok()?;
+    Some(channel / 4)
 }
 
 /// The transfers that an answer tells, or the records of a log that was accepted, or 0.

@@ -1,6 +1,9 @@
 //! The cases of document 01, its refusals, its list of errors, document 02's requests A1 to A3, A5,
-//! A6 and A8, and the line protocol.
+//! A6, A8 and A9, and the line protocol.
 
+mod board;
+mod board_lines;
+mod board_turns;
 mod cases;
 mod channel_zero;
 mod details;
