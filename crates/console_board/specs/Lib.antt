@@ -3,3 +3,4 @@ pub mod Answers
 pub mod Control
 pub mod Sheets
 pub mod Services
+pub mod Commands

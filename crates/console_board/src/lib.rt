@@ -1,5 +1,6 @@
 // The commands on the board.
-pub mod answers;
-pub mod control;
-pub mod runs;
-pub mod sheets;
+mod answers;
+pub mod commands;
+mod control;
+mod runs;
+mod sheets;

@@ -9,8 +9,6 @@ use Rattle.am9517.specs.State.{fresh}
 use Rattle.am9517.specs.Answers.{resetOf, grantOf}
 use Rattle.am9517.specs.declared.Controller.{Controller}
 use Rattle.board.specs.declared.Board.{Board}
-use Rattle.board.specs.Chips.{freshBoard}
-use Rattle.board.specs.Answers.{boardResetOf, boardGrantOf}
 use Rattle.am9517_sheet.specs.declared.forms.Form.the-variants.{One, Two}
 use Rattle.console_text.specs.Text.{codes}
 use Rattle.console_text.specs.Lines.{cut, wordsIn}
@@ -24,20 +22,14 @@ use Rattle.console_text.specs.declared.forms.ArrayCommand.{ArrayCommand}
 use Rattle.console_text.specs.declared.forms.ArrayCommand.the-variants.{Memory, Poke, Peek, Feed, Fill, Room, Out, Dump, Queue, Empty}
 use Rattle.console_text.specs.declared.forms.ServiceCommand.{ServiceCommand}
 use Rattle.console_text.specs.declared.forms.ServiceCommand.the-variants.{Run, Round, Judge}
-use Rattle.console_text.specs.declared.forms.BoardCommand.{BoardCommand}
-use Rattle.console_text.specs.declared.forms.BoardCommand.the-variants as board
 use Rattle.console_text.specs.declared.forms.BoardServiceCommand.{BoardServiceCommand}
-use Rattle.console_text.specs.declared.forms.BoardServiceCommand.the-variants as boardService
 use Rattle.console_chip.specs.Answers.{okText, errorText, bytesAnswer, Reply, reply, outcomeReply}
 use Rattle.console_chip.specs.Control.{stateText, stateReply, fullText, fullReply, freshReply, writeReply, readReply, pinsReply, waitsReply}
 use Rattle.console_chip.specs.Sheets.{sheetReply, loadReply, convertReply}
 use Rattle.console_arrays.specs.Arrays.{lentOf, lentText, peekText, Changed, changed, pokeOf, feedOf, fillOf, roomOf, positionOf}
 use Rattle.console_arrays.specs.Services.{Service, runReply, roundReply}
 use Rattle.console_arrays.specs.Judging.{judgeReply}
-use Rattle.console_board.specs.Answers.{boardOutcomeReply}
-use Rattle.console_board.specs.Control.{boardStateText, boardStateReply, boardFreshReply, boardWriteReply, boardReadReply, boardPinsReply, boardWaitsReply}
-use Rattle.console_board.specs.Sheets.{boardSheetReply, boardLoadReply}
-use Rattle.console_board.specs.Services.{boardRunReply, boardRoundReply}
+use Rattle.console_board.specs.Commands.{boardReply, boardServiceReply}
 use Rattle.console_dump.specs.Dump.{dumpOf}
 use Rattle.console_commands.specs.Holding.{Held, having, Said, said}
 
@@ -65,21 +57,7 @@ chipReply Back c one two = convertReply One c one two
 abbrev pub controlled : Held → Reply Controller → Said
 controlled h r = said (having (r .next) (h .board) (h .memory) (h .lent) (h .queue) (h .room) (h .written)) (r .text)
 
--- On the board: the next one, and the answer.
-unfoldable pub boardReply : BoardCommand → Board → List ℕ → List ℕ → List ℕ → Reply Board
-boardReply board.State b one two three = reply b (boardStateText b)
-boardReply board.SetState b one two three = boardStateReply b one
-boardReply board.Fresh b one two three = reply (freshBoard 0 0) okText
-boardReply board.FreshOf b one two three = boardFreshReply b one two
-boardReply board.Write b one two three = boardWriteReply b one two
-boardReply board.Read b one two three = boardReadReply b one
-boardReply board.Pins b one two three = boardPinsReply b one
-boardReply board.Reset b one two three = boardOutcomeReply false (boardResetOf b)
-boardReply board.Waits b one two three = boardWaitsReply b one two
-boardReply board.Grant b one two three = boardOutcomeReply true (boardGrantOf b)
-boardReply board.Sheet b one two three = boardSheetReply b one two three
-boardReply board.Load b one two three = boardLoadReply b one two three
-
+-- On the board likewise.
 abbrev pub boarded : Held → Reply Board → Said
 boarded h r = said (having (h .controller) (r .next) (h .memory) (h .lent) (h .queue) (h .room) (h .written)) (r .text)
 
@@ -117,10 +95,6 @@ serviceReply Judge c memory device room one two = judgeReply c memory room one
 -- a place n further on, and not past the last
 unfoldable pub further : ℕ → ℕ → ℕ → ℕ
 further from n last = when (ltb last from) from (when (ltb (last - from) n) last (from + n))
-
-unfoldable pub boardServiceReply : BoardServiceCommand → Board → List ℕ → List ℕ → List ℕ → List ℕ → List ℕ → Service Board
-boardServiceReply boardService.Run b memory device room one two = boardRunReply b memory device room one two
-boardServiceReply boardService.Round b memory device room one two = boardRoundReply b memory device room one
 
 -- "Bytes used leave the queue; bytes written go to the room from its write position on, which moves behind them"
 abbrev pub serviced : {A : Type 0} → Held → Controller → Board → Service A → Said

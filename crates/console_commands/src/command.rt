@@ -64,7 +64,7 @@ fn perform(
 }
 
 // What a line says, without comment and carriage return. A line of no words has no answer, any other one line of it;
-// only `show` and `help` tell more.
+// only what is for people tells more.
 pub fn execute(
     console: Console,
     line: &[u8],

@@ -2,12 +2,11 @@
 use crate::Console;
 use crate::holding::Executed;
 use am9517::Controller;
-use board::Board;
 use console_arrays::judging::judge;
 use console_arrays::runs::Served;
 use console_arrays::runs::go_round;
 use console_arrays::runs::run;
-use console_board::runs::BoardServed;
+use console_board::commands::serve_board;
 use console_text::forms::BoardServiceCommand;
 use console_text::forms::ServiceCommand;
 ghost use mathlib.Core.Path.{_≡_};
@@ -15,9 +14,8 @@ ghost use Prim.Native.Nat.{_≤_, _/_};
 ghost use lib.ListN.{length};
 ghost use Rattle.console_text.specs.Text.{page};
 ghost use Rattle.console_arrays.specs.Services.{served, serving};
-ghost use Rattle.console_board.specs.Services.{boardServed};
 ghost use Rattle.console_commands.specs.Holding.{holds, left, leaving};
-ghost use Rattle.console_commands.specs.Doings.{further as Doings·further, serviceReply, servicesDo, boardServiceReply, boardServicesDo};
+ghost use Rattle.console_commands.specs.Doings.{further as Doings·further, serviceReply, servicesDo, boardServicesDo};
 ghost use Rattle.console_commands.specs.Needs.{Standing, afterService};
 
 // A place n further on, and not past the last.
@@ -97,29 +95,6 @@ pub(crate) fn on_services(
     Executed {
         console: next,
         at: done.at,
-    }
-}
-
-fn serve_board(
-    b: Board,
-    command: BoardServiceCommand,
-    memory: &mut [u8],
-    device: &[u8],
-    room: &mut [u8],
-    one: &[u8],
-    two: &[u8],
-    out: &mut [u8],
-    at: usize,
-) -> BoardServed
-    ensures { λ r. ⌜ boardServed r (now (memory .exit)) (now (room .exit)) (now (out .exit)) ≡ serving (page (now (out .entry)) at) (boardServiceReply command b (now (memory .entry)) (now (device .entry)) (now (room .entry)) (now (one .entry)) (now (two .entry))) ⌝ }
-{
-    match command {
-        BoardServiceCommand::Run => {
-            console_board::runs::run(b, memory, device, room, one, two, out, at)
-        }
-        BoardServiceCommand::Round => {
-            console_board::runs::go_round(b, memory, device, room, one, out, at)
-        }
     }
 }
 

@@ -3,7 +3,7 @@ use Rattle.board.specs.declared.Board.{Board}
 use Rattle.console_commands.proofs.HoldingLaws.{served-standing}
 use Rattle.console_commands.proofs.ServedLaws.{service-so}
 use Rattle.console_commands.specs.declared.Console.{Console}
-use Rattle.console_commands.specs.Doings.{boardServiceReply}
+use Rattle.console_board.specs.Commands.{boardServiceReply}
 use Rattle.console_commands.specs.Needs.{withBoard}
 use Rattle.console_arrays.proofs.ArrayLaws.{held-length}
 use mathlib.Core.List.{List}

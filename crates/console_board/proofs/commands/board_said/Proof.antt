@@ -1,11 +1,11 @@
 use Rattle.console_chip.specs.Answers.{saying}
-use Rattle.console_commands.specs.Doings.{boardReply}
+use Rattle.console_board.specs.Commands.{boardReply}
 use Rattle.words.proofs.ChoiceLaws.{when-hit}
 use borrow.Author.Tests.{le-leb}
 use mathlib.Core.Path.{ap, _∙_}
 use borrow.Author.Needs.{needs}
-use Rattle.console_commands.proofs.board_commands.board_said.Statement.{statement}
-use Rattle.console_commands.proofs.board_commands.board_said.Tie as tie
+use Rattle.console_board.proofs.commands.board_said.Statement.{statement}
+use Rattle.console_board.proofs.commands.board_said.Tie as tie
 
 returns : tie.Need-returns
 unfolding boardReply

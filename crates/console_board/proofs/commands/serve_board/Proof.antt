@@ -1,7 +1,7 @@
-use Rattle.console_commands.specs.Doings.{boardServiceReply}
+use Rattle.console_board.specs.Commands.{boardServiceReply}
 use borrow.Author.Needs.{needs}
-use Rattle.console_commands.proofs.services.serve_board.Statement.{statement}
-use Rattle.console_commands.proofs.services.serve_board.Tie as tie
+use Rattle.console_board.proofs.commands.serve_board.Statement.{statement}
+use Rattle.console_board.proofs.commands.serve_board.Tie as tie
 
 returns : tie.Need-returns
 unfolding boardServiceReply
