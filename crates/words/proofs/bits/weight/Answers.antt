@@ -1,0 +1,6 @@
+use borrow.Author.Rules.{rules}
+use Rattle.words.proofs.BitLaws.{weight_fits}
+use Rattle.words.proofs.bits.weight.Goals as goal
+
+pub returns : goal.returns
+returns c = weight_fits _ c.requires

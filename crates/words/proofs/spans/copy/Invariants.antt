@@ -1,0 +1,12 @@
+use Rattle.words.proofs.SpreadLaws.{Copying, copying_start, copying_on, copying_end}
+use Rattle.words.proofs.SpanLaws.{within_computed, within_inside}
+use Rattle.words.specs.Spans.{place_of}
+use native.Mathlib.Omega.{arith}
+use Prim.Native.Nat.{◌-◌}
+use Rattle.words.proofs.spans.copy.Given as goal
+
+abbrev pub invariant-loop-j : goal.invariant-loop-j
+invariant-loop-j l = Copying (place_of l.to_down l.to) (place_of l.from_down l.from) l.src l.initial.dst l.n l.dst l.j
+
+abbrev pub decreases-loop-j : goal.decreases-loop-j
+decreases-loop-j l = l.n - l.j
