@@ -22,7 +22,7 @@ mod state;
 pub use serving::{entitled_of, picked_from};
 
 #[repr(C)]
-#[derive(Drop)]
+#[derive(Clone, Copy)]
 pub struct Channel {
     pub base_address: u16,
     pub address: u16,
@@ -35,7 +35,7 @@ pub struct Channel {
 // ranges.rt asks as one number (the last four are what the end of a service clears), then four that it asks as another; of the orders
 // tried this one is the cheapest for the loops of rounds.
 #[repr(C)]
-#[derive(Drop)]
+#[derive(Clone, Copy)]
 pub struct Controller {
     pub channels: [Channel; 4],
     pub tc: u8,
@@ -55,14 +55,14 @@ pub struct Controller {
 }
 
 // Which maker's data sheet a controller follows; its number is the state's field `edition`.
-#[derive(Drop)]
+#[derive(Clone, Copy)]
 pub enum Edition {
     Am9517A,
     Intel8237A,
 }
 
 // What an operation says: done; done, with the byte read or the channel granted; or the number of its refusal.
-#[derive(Drop)]
+#[derive(Clone, Copy)]
 pub enum Answer {
     Done,
     Value(u8),
@@ -70,7 +70,7 @@ pub enum Answer {
 }
 
 // The next state, which is the old one where the answer is a refusal.
-#[derive(Drop)]
+#[derive(Clone, Copy)]
 pub struct Outcome {
     pub controller: Controller,
     pub answer: Answer,

@@ -53,7 +53,7 @@ pub(crate) fn move_bytes(ch: Channel, memory: &mut [u8], device: &[u8], room: &m
 }
 
 // The device bytes used and written so far.
-#[derive(Drop)]
+#[derive(Clone, Copy)]
 pub struct Moved {
     pub used: usize,
     pub written: usize,

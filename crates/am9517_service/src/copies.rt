@@ -18,7 +18,7 @@ use words::spans::{carry, fill, lesser, reach};
 use words::steps::steps;
 
 // Where the bytes of memory-to-memory come from and go to: channel 0's record, held or not, and channel 1's address and direction.
-#[derive(Drop)]
+#[derive(Clone, Copy)]
 pub struct Route {
     pub hold: bool,
     pub source: Channel,
@@ -27,7 +27,7 @@ pub struct Route {
 }
 
 // What a leg left of channels 0 and 1 and of the bits.
-#[derive(Drop)]
+#[derive(Clone, Copy)]
 pub struct Copied {
     pub source: Channel,
     pub target: Channel,

@@ -13,7 +13,7 @@ use words::bytes::high_byte;
 use words::choice::{when, when_word};
 
 // The bits of the channels that a service may change.
-#[derive(Drop)]
+#[derive(Clone, Copy)]
 pub struct Bits {
     pub tc: u8,
     pub request: u8,
@@ -21,7 +21,7 @@ pub struct Bits {
 }
 
 // What a leg left of the channel and of the bits, the upper byte of its last address, and its working states.
-#[derive(Drop)]
+#[derive(Clone, Copy)]
 pub struct Leg {
     pub channel: Channel,
     pub bits: Bits,

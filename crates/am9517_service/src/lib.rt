@@ -16,7 +16,7 @@ pub use runs::{run, run_refusal};
 pub use turns::{Rota, Served, next_of, rota_of, serve};
 
 // Why a run stopped.
-#[derive(Drop)]
+#[derive(Clone, Copy)]
 pub enum Reason {
     Ended,
     Dropped,
@@ -26,7 +26,7 @@ pub enum Reason {
 }
 
 // What is counted: transfers, device bytes used and written, and working states.
-#[derive(Drop)]
+#[derive(Clone, Copy)]
 pub struct Counts {
     pub transfers: u64,
     pub used: usize,
@@ -35,14 +35,14 @@ pub struct Counts {
 }
 
 // How a run went: it stopped for a reason, or was refused by a number.
-#[derive(Drop)]
+#[derive(Clone, Copy)]
 pub enum RunAnswer {
     Stopped(Reason),
     Refused(u8),
 }
 
 // The next state, the answer, and what was counted; after a refusal the state as it was, and zeros.
-#[derive(Drop)]
+#[derive(Clone, Copy)]
 pub struct Ran {
     pub controller: Controller,
     pub answer: RunAnswer,
@@ -50,7 +50,7 @@ pub struct Ran {
 }
 
 // Why a round stopped: k services begun, nobody entitled, a run that did not end; or the number of its refusal.
-#[derive(Drop)]
+#[derive(Clone, Copy)]
 pub enum RoundAnswer {
     Done,
     Quiet,
@@ -59,7 +59,7 @@ pub enum RoundAnswer {
 }
 
 // The next state, the answer, the services begun per channel and the totals.
-#[derive(Drop)]
+#[derive(Clone, Copy)]
 pub struct Rounded {
     pub controller: Controller,
     pub answer: RoundAnswer,

@@ -38,7 +38,7 @@ fn round_refusal(c: Controller, memory: &[u8], k: u32) -> u8
 }
 
 // What a round needs of the command, the wait states, the pins and the modes, which stay.
-#[derive(Drop)]
+#[derive(Clone, Copy)]
 pub struct Facts {
     pub rotating: bool,
     pub copier: usize,
@@ -107,7 +107,7 @@ pub(crate) fn bounded_channel(ch: Channel) -> Channel
 }
 
 // A single transfer that meets no TC: whether it was made, and the device bytes used and written.
-#[derive(Drop)]
+#[derive(Clone, Copy)]
 pub struct Alone {
     pub made: bool,
     pub used: usize,
@@ -177,7 +177,7 @@ pub(crate) fn stepped(ch: Channel) -> Channel
 }
 
 // What a leg left of its channel and of the bits, the upper byte of its last address, and the counts with it.
-#[derive(Drop)]
+#[derive(Clone, Copy)]
 pub struct Turn {
     pub channel: Channel,
     pub bits: Bits,

@@ -8,7 +8,7 @@ use am9517::modes::{is_cascade, is_demand, is_read, is_single, is_write};
 use words::spans::least;
 
 // How many transfers a leg makes, and why it stops then.
-#[derive(Drop)]
+#[derive(Clone, Copy)]
 pub struct Span {
     pub transfers: u64,
     pub why: Reason,

@@ -21,7 +21,7 @@ use words::bits::bit;
 use words::choice::when;
 
 // A controller at rest between two services of a round, and beside it what its command, pins, modes and bits tell.
-#[derive(Drop)]
+#[derive(Clone, Copy)]
 pub struct Rota {
     pub controller: Controller,
     pub facts: Facts,
@@ -29,7 +29,7 @@ pub struct Rota {
 }
 
 // A service: the rota behind it, why it stopped, and the counts with it.
-#[derive(Drop)]
+#[derive(Clone, Copy)]
 pub struct Served {
     pub rota: Rota,
     pub why: Reason,

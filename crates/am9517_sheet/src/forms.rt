@@ -8,7 +8,7 @@ const CORE: usize = 48;
 // The bytes of a body of form 2, in which every field has its place.
 pub const BODY: usize = 50;
 
-#[derive(Drop)]
+#[derive(Clone, Copy)]
 pub enum Form {
     One,
     Two,

@@ -20,14 +20,14 @@ pub use body::{body_of, state_of};
 pub use forms::{BODY, Form};
 
 // What writing, reading or converting a sheet says: done, or the number of its refusal.
-#[derive(Drop)]
+#[derive(Clone, Copy)]
 pub enum SheetAnswer {
     Done,
     Refused(u8),
 }
 
 // The state that was read, which is the old one where the answer is a refusal.
-#[derive(Drop)]
+#[derive(Clone, Copy)]
 pub struct SheetRead {
     pub controller: Controller,
     pub answer: SheetAnswer,

@@ -12,7 +12,7 @@ use am9517::Controller;
 use words::choice::when;
 
 // The state that a sheet tells, in its ranges or not, and the number of its fault, 0 for none.
-#[derive(Drop)]
+#[derive(Clone, Copy)]
 pub struct SheetFound {
     pub controller: Controller,
     pub fault: u8,

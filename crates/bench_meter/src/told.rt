@@ -6,7 +6,7 @@ use am9517_service::{Ran, Reason, RoundAnswer, Rounded, RunAnswer};
 use logs::{Judged, Verdict};
 
 // What a run or a round told, its state aside.
-#[derive(Drop)]
+#[derive(Clone, Copy)]
 pub struct Told {
     pub number: u64,
     pub transfers: u64,
@@ -98,7 +98,7 @@ pub(crate) fn round_told(r: Rounded) -> Told {
 }
 
 // What was found of a log: every record is right (0), or not (1), or a refusal; how many bytes are; the address error.
-#[derive(Drop)]
+#[derive(Clone, Copy)]
 pub struct Found {
     pub number: u64,
     pub right: usize,

@@ -27,7 +27,7 @@ pub use sheets::{read_sheet, write_sheet};
 
 // The byte of the arbiter is the number of the controller granted last: 0 the first, 1 the second.
 #[repr(C)]
-#[derive(Drop)]
+#[derive(Clone, Copy)]
 pub struct Board {
     pub first: Controller,
     pub second: Controller,
@@ -35,21 +35,21 @@ pub struct Board {
 }
 
 // Which of the two.
-#[derive(Drop)]
+#[derive(Clone, Copy)]
 pub enum Chip {
     First,
     Second,
 }
 
 // The next board, which is the old one where the answer is a refusal.
-#[derive(Drop)]
+#[derive(Clone, Copy)]
 pub struct BoardOutcome {
     pub board: Board,
     pub answer: Answer,
 }
 
 // The next board, the answer, and what was counted; after a refusal the board as it was, and zeros.
-#[derive(Drop)]
+#[derive(Clone, Copy)]
 pub struct BoardRan {
     pub board: Board,
     pub answer: RunAnswer,
@@ -57,7 +57,7 @@ pub struct BoardRan {
 }
 
 // The next board, the answer, the services begun per channel of the eight, and the totals.
-#[derive(Drop)]
+#[derive(Clone, Copy)]
 pub struct BoardRounded {
     pub board: Board,
     pub answer: RoundAnswer,
@@ -66,7 +66,7 @@ pub struct BoardRounded {
 }
 
 // The board with the state that was read, which is the old one where the answer is a refusal.
-#[derive(Drop)]
+#[derive(Clone, Copy)]
 pub struct BoardSheetRead {
     pub board: Board,
     pub answer: SheetAnswer,

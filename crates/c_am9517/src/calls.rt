@@ -18,32 +18,32 @@ use am9517_sheet::Form;
 use c_told::{RunTold, Told, run_told_of, sheet_number, told_of, wide};
 
 // The next chip, and a refusal's number, 0 for none.
-#[derive(Drop)]
+#[derive(Clone, Copy)]
 pub struct Done {
     pub controller: Controller,
     pub refusal: u32,
 }
 
 // The next chip, and what is told.
-#[derive(Drop)]
+#[derive(Clone, Copy)]
 pub struct Answered {
     pub controller: Controller,
     pub said: Told,
 }
 
-#[derive(Drop)]
+#[derive(Clone, Copy)]
 pub struct RunDone {
     pub controller: Controller,
     pub said: RunTold,
 }
 
-#[derive(Drop)]
+#[derive(Clone, Copy)]
 pub struct RoundDone {
     pub controller: Controller,
     pub said: RoundTold,
 }
 
-#[derive(Drop)]
+#[derive(Clone, Copy)]
 pub struct JudgeDone {
     pub controller: Controller,
     pub said: JudgeTold,

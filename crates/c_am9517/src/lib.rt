@@ -23,7 +23,7 @@ mod numbers;
 
 // How a round went.
 #[repr(C)]
-#[derive(Drop)]
+#[derive(Clone, Copy)]
 pub struct RoundTold {
     pub refusal: u32,
     pub reason: u32,
@@ -37,7 +37,7 @@ pub struct RoundTold {
 // What is found of a log: how many of its bytes are right, which are all of them where it is accepted, and the address error of the record behind
 // them.
 #[repr(C)]
-#[derive(Drop)]
+#[derive(Clone, Copy)]
 pub struct JudgeTold {
     pub refusal: u32,
     pub error: i32,

@@ -14,21 +14,21 @@ use board::{Board, BoardOutcome, BoardRounded, Chip};
 use c_told::{RunTold, Told, round_pair, run_told_of, sheet_number, told_of, wide};
 
 // The next board, and a refusal's number, 0 for none.
-#[derive(Drop)]
+#[derive(Clone, Copy)]
 pub struct Done {
     pub board: Board,
     pub refusal: u32,
 }
 
 // The next board, and what is told.
-#[derive(Drop)]
+#[derive(Clone, Copy)]
 pub struct Answered {
     pub board: Board,
     pub said: Told,
 }
 
 // The TC bits and flip-flops of both after a read, and what is told.
-#[derive(Drop)]
+#[derive(Clone, Copy)]
 pub struct Looked {
     pub first_tc: u8,
     pub first_flip_flop: u8,
@@ -37,13 +37,13 @@ pub struct Looked {
     pub said: Told,
 }
 
-#[derive(Drop)]
+#[derive(Clone, Copy)]
 pub struct RunDone {
     pub board: Board,
     pub said: RunTold,
 }
 
-#[derive(Drop)]
+#[derive(Clone, Copy)]
 pub struct RoundDone {
     pub board: Board,
     pub said: RoundTold,

@@ -18,7 +18,7 @@ mod reads;
 
 // How a round went.
 #[repr(C)]
-#[derive(Drop)]
+#[derive(Clone, Copy)]
 pub struct RoundTold {
     pub refusal: u32,
     pub reason: u32,

@@ -11,7 +11,7 @@ use am9517_sheet::SheetAnswer;
 
 // A refusal's number, and the byte read, the channel granted or the set shown.
 #[repr(C)]
-#[derive(Drop)]
+#[derive(Clone, Copy)]
 pub struct Told {
     pub refusal: u32,
     pub value: u32,
@@ -19,7 +19,7 @@ pub struct Told {
 
 // How a run went.
 #[repr(C)]
-#[derive(Drop)]
+#[derive(Clone, Copy)]
 pub struct RunTold {
     pub refusal: u32,
     pub reason: u32,
@@ -30,7 +30,7 @@ pub struct RunTold {
 }
 
 // A refusal's number and a reason's.
-#[derive(Drop)]
+#[derive(Clone, Copy)]
 pub struct Pair {
     pub refusal: u32,
     pub reason: u32,

@@ -9,14 +9,14 @@ use console_text::numbers::{Number, number_of};
 use console_text::page::copies;
 
 // A number that a command sets, and the place behind its answer.
-#[derive(Drop)]
+#[derive(Clone, Copy)]
 pub struct Moved {
     pub value: usize,
     pub at: usize,
 }
 
 // The part of an array from `from` up to `to`, and the place behind the answer.
-#[derive(Drop)]
+#[derive(Clone, Copy)]
 pub struct Part {
     pub from: usize,
     pub to: usize,

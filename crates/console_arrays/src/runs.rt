@@ -11,7 +11,7 @@ use console_text::numbers::{Number, number_of};
 use console_text::page::{decimal, text};
 
 // The next controller, the device bytes used and written, and the place behind the answer.
-#[derive(Drop)]
+#[derive(Clone, Copy)]
 pub struct Served {
     pub controller: Controller,
     pub used: usize,

@@ -8,7 +8,7 @@ use board::{Board, BoardOutcome};
 use console_chip::answers::{answered, error, ok};
 
 // The next board, and the place behind the answer.
-#[derive(Drop)]
+#[derive(Clone, Copy)]
 pub struct BoardSpoken {
     pub board: Board,
     pub at: usize,

@@ -10,7 +10,7 @@ use console_chip::answers::{WORD, error};
 use console_text::numbers::{Number, number_of};
 
 // The next board, the device bytes used and written, and the place behind the answer.
-#[derive(Drop)]
+#[derive(Clone, Copy)]
 pub struct BoardServed {
     pub board: Board,
     pub used: usize,

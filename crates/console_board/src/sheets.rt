@@ -17,7 +17,7 @@ use console_text::numbers::{Number, number_of};
 use console_text::page::copies;
 
 // Whose sheet, and of which form.
-#[derive(Drop)]
+#[derive(Clone, Copy)]
 pub enum Named {
     Sheet(Chip, Form),
     Bad,

@@ -10,7 +10,7 @@ use console_text::page::{bytes, decimal, hex, text};
 pub const WORD: u32 = 0xffff_ffff;
 
 // The next controller, and the place behind the answer.
-#[derive(Drop)]
+#[derive(Clone, Copy)]
 pub struct Spoken {
     pub controller: Controller,
     pub at: usize,

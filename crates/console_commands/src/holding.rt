@@ -5,7 +5,7 @@ ghost use Rattle.console_commands.specs.Holding.{stands as Holding·stands};
 use crate::Console;
 
 // What the console holds after a line, and the place behind its answer.
-#[derive(Drop)]
+#[derive(Clone, Copy)]
 pub struct Executed {
     pub console: Console,
     pub at: usize,

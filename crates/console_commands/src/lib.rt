@@ -15,7 +15,7 @@ pub use holding::Executed;
 
 // What the console holds beside its arrays: the controller; the board; how many bytes of memory are lent; where the queue begins and
 // ends in its array; the room's size and its write position.
-#[derive(Drop)]
+#[derive(Clone, Copy)]
 pub struct Console {
     pub controller: Controller,
     pub board: Board,

@@ -14,7 +14,7 @@ use faults::error_in;
 use refusals::refusal;
 
 // What the console holds, as far as an answer depends on it.
-#[derive(Drop)]
+#[derive(Clone, Copy)]
 pub struct Held {
     pub controller: Controller,
     pub board: Board,

@@ -13,7 +13,7 @@ pub use log::{break_log, close_log, open_log};
 pub use write::put_file;
 
 // What is to be done with a line.
-#[derive(Drop)]
+#[derive(Clone, Copy)]
 pub enum Task {
     // it is the console's
     Console,
@@ -31,7 +31,7 @@ pub enum Task {
 }
 
 // The task; whether a file is named; the length of the line as it now stands in its array, and of the file's name.
-#[derive(Drop)]
+#[derive(Clone, Copy)]
 pub struct Plan {
     pub task: Task,
     pub is_file: bool,

@@ -14,7 +14,7 @@ const NAME: usize = 4000;
 const LONGEST: usize = 200000;
 
 // How a command names its file: by its only word, by its second, or by its third; two files by two words. Sheets are of form 1 or 2.
-#[derive(Drop)]
+#[derive(Clone, Copy)]
 enum Shape {
     Other,
     Reads(usize),
@@ -71,7 +71,7 @@ fn words_of(shape: Shape) -> usize {
 }
 
 // The words of a line behind its name: how many, to four, and where the last of them stands.
-#[derive(Drop)]
+#[derive(Clone, Copy)]
 struct Words {
     count: usize,
     from: usize,

@@ -4,7 +4,7 @@ use crate::complaint::{complain, complain_of};
 // No array of the console has more bytes.
 const MOST: usize = 70000;
 
-#[derive(Drop)]
+#[derive(Clone, Copy)]
 pub(crate) enum Read {
     Whole(usize),
     Failed,

@@ -28,7 +28,7 @@ fn silent_by(c: Controller, memory: &mut [u8]) -> Silent {
 }
 
 // How far a log is right: the state there, its place, and the status where it is settled, else 3.
-#[derive(Drop)]
+#[derive(Clone, Copy)]
 pub(crate) struct Course {
     pub controller: Controller,
     pub place: u64,

@@ -1,7 +1,7 @@
 // A file's bytes; one that can't be read is never taken for one that has ended.
 use crate::says::{complain, complain_of};
 
-#[derive(Drop)]
+#[derive(Clone, Copy)]
 pub(crate) enum Read {
     Bytes(usize),
     Failed,

@@ -7,7 +7,7 @@ use logs::{next_record, record_in};
 use words::bits::is_set;
 
 // Why the rules make no transfer next; Not where they make one.
-#[derive(Drop)]
+#[derive(Clone, Copy)]
 pub(crate) enum Silent {
     Not,
     Over,

@@ -14,7 +14,7 @@ use console_text::page::byte;
 const LONGEST: usize = 200000;
 
 // How far a line under way has come: its length in its array, the place in the part behind it, and whether it has ended.
-#[derive(Drop)]
+#[derive(Clone, Copy)]
 pub struct Reached {
     pub length: usize,
     pub taken: usize,

@@ -8,7 +8,7 @@ use crate::line::same;
 
 // A command, by what it is given: the controller, the arrays, all of them, the board, that and the arrays, or nothing; a line of no
 // words; anything else.
-#[derive(Drop)]
+#[derive(Clone, Copy)]
 pub enum Command {
     Nothing,
     Chip(ChipCommand),
@@ -21,7 +21,7 @@ pub enum Command {
 }
 
 // On the controller.
-#[derive(Drop)]
+#[derive(Clone, Copy)]
 pub enum ChipCommand {
     State,
     SetState,
@@ -44,7 +44,7 @@ pub enum ChipCommand {
 }
 
 // On the memory, the queue and the room.
-#[derive(Drop)]
+#[derive(Clone, Copy)]
 pub enum ArrayCommand {
     Memory,
     Poke,
@@ -59,7 +59,7 @@ pub enum ArrayCommand {
 }
 
 // On the controller with all of them lent.
-#[derive(Drop)]
+#[derive(Clone, Copy)]
 pub enum ServiceCommand {
     Run,
     Round,
@@ -67,7 +67,7 @@ pub enum ServiceCommand {
 }
 
 // On the board.
-#[derive(Drop)]
+#[derive(Clone, Copy)]
 pub enum BoardCommand {
     State,
     SetState,
@@ -84,14 +84,14 @@ pub enum BoardCommand {
 }
 
 // On the board with the arrays lent.
-#[derive(Drop)]
+#[derive(Clone, Copy)]
 pub enum BoardServiceCommand {
     Run,
     Round,
 }
 
 // For people.
-#[derive(Drop)]
+#[derive(Clone, Copy)]
 pub enum PeopleCommand {
     Show,
     BoardShow,

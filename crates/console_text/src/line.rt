@@ -21,7 +21,7 @@ pub fn same(a: &[u8], b: &[u8]) -> bool
 }
 
 // A word is what stands from `from` up to `to`; none, where the two are equal.
-#[derive(Drop)]
+#[derive(Clone, Copy)]
 pub struct Span {
     pub from: usize,
     pub to: usize,
@@ -79,7 +79,7 @@ fn one_if(w: Span) -> usize
 }
 
 // A line's first word, the three behind it, and how many there are behind the first; 4 stands for more than three.
-#[derive(Drop)]
+#[derive(Clone, Copy)]
 pub struct Words {
     pub name: Span,
     pub one: Span,

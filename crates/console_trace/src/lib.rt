@@ -11,7 +11,7 @@ pub use transfers::go_on;
 
 // How far it has come: the state; how many device bytes are used, and how many places of the room are left; the number of the service under
 // way, its transfers, how many it may make and which meets EOP; how many services may still begin; whether there is more.
-#[derive(Drop)]
+#[derive(Clone, Copy)]
 pub struct Course {
     pub controller: Controller,
     pub used: usize,

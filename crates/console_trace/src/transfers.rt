@@ -17,7 +17,7 @@ const CHUNK: usize = 512;
 const MEMORY: usize = 65536;
 
 // One transfer, if one was made: its record, its states, and whether S1 is among them.
-#[derive(Drop)]
+#[derive(Clone, Copy)]
 struct Made {
     course: Course,
     record: Record,

@@ -9,7 +9,7 @@ use std::num::wrapping_add_u64;
 const SHOWN: usize = 200;
 
 // The file of the answers expected, what of the part read of it is still to come, the number of its line, and whether it can't be read.
-#[derive(Drop)]
+#[derive(Clone, Copy)]
 pub struct Answers {
     pub fd: i32,
     pub from: usize,
@@ -19,7 +19,7 @@ pub struct Answers {
 }
 
 // How many bytes of an answer are as expected, and whether all are.
-#[derive(Drop)]
+#[derive(Clone, Copy)]
 pub(crate) struct Compared {
     pub answers: Answers,
     pub same: usize,

@@ -5,7 +5,7 @@ use console_files::{Task, close_log, open_log};
 use console_text::page::text;
 
 // What is traced from then on, whether all went well, and whether it was a line to leave at.
-#[derive(Drop)]
+#[derive(Clone, Copy)]
 pub(crate) struct Own {
     pub trace: Trace,
     pub is_well: bool,

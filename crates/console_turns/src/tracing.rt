@@ -21,7 +21,7 @@ pub struct Trace {
 }
 
 // The same after a line, and the place behind the lines that wait.
-#[derive(Drop)]
+#[derive(Clone, Copy)]
 pub(crate) struct Shown {
     pub trace: Trace,
     pub at: usize,

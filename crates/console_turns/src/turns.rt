@@ -37,7 +37,7 @@ const WAITING: usize = 160000;
 const TERMINAL: usize = 4095;
 
 // Where the script is read, whether it is typed at a terminal, and how its answers are told.
-#[derive(Drop)]
+#[derive(Clone, Copy)]
 pub struct Way {
     pub fd: i32,
     pub is_typed: bool,
@@ -50,7 +50,7 @@ pub struct Way {
 // What the console holds; what is traced; the length of the line under way; how many bytes of answers wait; the answers expected; the number
 // of the last line; what of the part read is still to be taken; whether the script's end was met, whether there is more to be
 // done, and whether something failed.
-#[derive(Drop)]
+#[derive(Clone, Copy)]
 pub struct Turn {
     pub console: Console,
     pub trace: Trace,
@@ -67,7 +67,7 @@ pub struct Turn {
 
 // What the console holds after a line, what is traced from then on, and the place behind its answer; how long the line is; where its answers begin, without and with an echo; whether it was one to
 // leave at, whether it names a file, and whether its fault was told already.
-#[derive(Drop)]
+#[derive(Clone, Copy)]
 pub(crate) struct Done {
     pub console: Console,
     pub trace: Trace,

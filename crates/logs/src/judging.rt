@@ -16,7 +16,7 @@ use am9517_service::run_refusal;
 use words::bits::is_set;
 
 // How far a log is right without ending the service, and the state there.
-#[derive(Drop)]
+#[derive(Clone, Copy)]
 pub struct Passed {
     pub controller: Controller,
     pub at: usize,

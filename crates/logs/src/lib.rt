@@ -11,7 +11,7 @@ pub use judging::{handed_back, judge};
 pub use records::{bytes_of, next_record, record_in};
 
 // A record of a log: what it says of one transfer.
-#[derive(Drop)]
+#[derive(Clone, Copy)]
 pub struct Record {
     pub channel: u8,
     pub kind: u8,
@@ -22,7 +22,7 @@ pub struct Record {
 }
 
 // What is found of a log: every record is right; or the place of the first wrong one and its address error; or the number of a refusal.
-#[derive(Drop)]
+#[derive(Clone, Copy)]
 pub enum Verdict {
     Accepted,
     Wrong { at: usize, error: i32 },
@@ -30,7 +30,7 @@ pub enum Verdict {
 }
 
 // The state as the good records made it, and the verdict; after a refusal the state as it was.
-#[derive(Drop)]
+#[derive(Clone, Copy)]
 pub struct Judged {
     pub controller: Controller,
     pub verdict: Verdict,

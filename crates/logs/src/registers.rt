@@ -14,7 +14,7 @@ use words::choice::{when, when_word};
 use words::steps::step;
 
 // What stays over a service.
-#[derive(Drop)]
+#[derive(Clone, Copy)]
 pub struct Service {
     pub channel: u8,
     pub kind: u8,
@@ -29,7 +29,7 @@ pub struct Service {
 
 // What its transfers step: the first address, the count that TC goes by, and in memory-to-memory the second address and channel 0's
 // count, which else are 0; and what they leave in the temporary byte and in the latch.
-#[derive(Drop)]
+#[derive(Clone, Copy)]
 pub struct Registers {
     pub address: u16,
     pub count: u16,

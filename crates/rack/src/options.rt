@@ -2,7 +2,7 @@
 use console_text::line::same;
 use libc::{STDERR_FILENO, STDOUT_FILENO};
 
-#[derive(Drop)]
+#[derive(Clone, Copy)]
 pub(crate) enum Asked {
     Run,
     Help,
@@ -13,7 +13,7 @@ pub(crate) enum Asked {
 }
 
 // What is asked for; how answers are told; which arguments name the script and the answers expected, 0 for none.
-#[derive(Drop)]
+#[derive(Clone, Copy)]
 pub(crate) struct Options {
     pub asked: Asked,
     pub is_explaining: bool,
