@@ -1,4 +1,6 @@
 // One Am9517A: its state, and the operations on it. Each takes the state by value and hands the next one back.
+#![tactic(auto)]
+
 ghost use Rattle.std.specs.Prelude.{◌≡◌};
 ghost use Rattle.am9517.specs.Editions.{number_of};
 ghost use Rattle.am9517.specs.State.{fresh};

@@ -1,6 +1,0 @@
-use borrow.Author.Rules.{rules}
-use Rattle.am9517.proofs.Channel.with_address_byte.Statement.{statement}
-use Rattle.am9517.proofs.Channel.with_address_byte.Tie as tie
-
-pub with_address_byte_spec : {M : Type 1} → statement M
-with_address_byte_spec = tie.close (tie.spec (search rules) (search rules) (λ c. simp (c.before.with_byte.ensures, c.with-byte2.ensures)))

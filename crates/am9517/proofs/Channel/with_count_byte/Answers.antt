@@ -1,0 +1,5 @@
+use borrow.Author.Rules.{rules}
+use Rattle.am9517.proofs.Channel.with_count_byte.Goals as goal
+
+pub returns : goal.returns
+returns c = simp (c.before.with_byte.ensures, c.with_byte-2.ensures)

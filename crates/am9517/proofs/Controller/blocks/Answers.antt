@@ -1,0 +1,6 @@
+use Rattle.am9517.proofs.ServingLaws.{blocks_are}
+use borrow.Author.Rules.{rules}
+use Rattle.am9517.proofs.Controller.blocks.Goals as goal
+
+pub returns : goal.returns
+returns c = simp (c.when.ensures, c.before.block_set.ensures, c.before.before.disabled.ensures) (blocks_are _)

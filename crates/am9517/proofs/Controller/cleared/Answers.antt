@@ -1,0 +1,5 @@
+use borrow.Author.Rules.{rules}
+use Rattle.am9517.proofs.Controller.cleared.Goals as goal
+
+pub returns : goal.returns
+returns c = simp c.ended-next.ensures

@@ -1,0 +1,5 @@
+use borrow.Author.Rules.{rules}
+use Rattle.am9517.proofs.Controller.fresh.Goals as goal
+
+pub returns : goal.returns
+returns c = simp c.edition_number.ensures
