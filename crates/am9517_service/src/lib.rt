@@ -1,4 +1,6 @@
 // Services over lent memory, device bytes and device room: a run of one, and a round of up to k.
+#![tactic(auto)]
+
 use am9517::Controller;
 
 mod bytes;

@@ -1,0 +1,5 @@
+use borrow.Author.Rules.{rules}
+use Rattle.am9517_service.proofs.copies.route_of.Goals as goal
+
+pub returns : goal.returns
+returns c = simp c.decrement.ensures

@@ -1,0 +1,24 @@
+use Rattle.am9517_service.specs.States.{pace}
+use Rattle.words.specs.Choice.{when}
+use Rattle.words.proofs.ChoiceLaws.{when_both}
+use Rattle.am9517.specs.Modes.{compressed}
+use native.Mathlib.Omega.{arith}
+use mathlib.Core.Path.{refl}
+use Prim.Native.Nat.{ℕ, ◌≤◌}
+use borrow.Author.Rules.{rules}
+use Rattle.am9517_service.proofs.runs.pace_of.Goals as goal
+
+-- without wait states
+plain : (command : ℕ) → when (compressed command) 2 3 ≤ 3
+plain command = when_both (λ (x : ℕ). x ≤ 3) (compressed command) (omega arith) (omega arith)
+
+pub overflow_add-result : goal.overflow_add-result
+overflow_add-result c =
+    let at-compressed = c.before in let entry = at-compressed.before in
+    rw (c.when_long.ensures, at-compressed.compressed.ensures) (omega (arith, plain entry.args.command, entry.well_formed))
+
+pub returns : goal.returns
+unfolding pace
+returns c =
+    let at-compressed = c.before in let entry = at-compressed.before in
+    rw (c.when_long.ensures, at-compressed.compressed.ensures) (refl, omega (arith, plain entry.args.command, entry.well_formed))

@@ -1,0 +1,5 @@
+use borrow.Author.Rules.{rules}
+use Rattle.am9517_service.proofs.runs.refused.Goals as goal
+
+pub returns : goal.returns
+returns c = simp c.no_counts.ensures

@@ -1,0 +1,5 @@
+use borrow.Author.Rules.{rules}
+use Rattle.am9517_service.proofs.turns.rota_of.Goals as goal
+
+pub returns : goal.returns
+returns c = simp (c.nexts_of.ensures, c.before.facts_of-facts.ensures.0)
