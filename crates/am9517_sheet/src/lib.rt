@@ -1,4 +1,6 @@
 // Stored sheets of both forms, at the end of a lent slice.
+#![tactic(auto)]
+
 ghost use Rattle.std.specs.Prelude.{◌≡◌, length};
 ghost use Rattle.am9517.specs.Refusals.{refusal};
 ghost use Rattle.am9517_sheet.specs.Form.{other};
