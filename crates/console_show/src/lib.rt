@@ -1,4 +1,6 @@
 // What is shown to people: the state in words, and help. Nothing is promised of these texts but that they are put safely.
+#![tactic(auto)]
+
 mod advice;
 pub mod names;
 pub mod rows;
