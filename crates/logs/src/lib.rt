@@ -1,4 +1,6 @@
 // Judging the bus log of a service that another replica made: which of its records are what the rules do next.
+#![tactic(auto)]
+
 use am9517::Controller;
 
 mod ends;

@@ -1,0 +1,5 @@
+use borrow.Author.Rules.{rules}
+use Rattle.logs.proofs.records.record_by.Goals as goal
+
+pub returns : goal.returns
+returns c = cc

@@ -1,0 +1,5 @@
+use borrow.Author.Rules.{rules}
+use Rattle.logs.proofs.registers.registers_of.Goals as goal
+
+pub returns : goal.returns
+returns c = cc
