@@ -1,6 +1,8 @@
 // Works for the bench, each done again and again from the same states, given as sheets.
 // A turn starts from one of two states, told by what the last turn gave, and stores all that it gives: so
 // no turn's work can be left out, or be done once for all turns.
+#![tactic(auto)]
+
 use crate::told::{
     all_of, answer_number, found_number, found_of, nothing_found, nothing_told, round_told,
     run_told,
