@@ -1,4 +1,6 @@
 // What the calls for C say in numbers, whichever library they are of: editions, answers, refusals and end reasons.
+#![tactic(auto)]
+
 ghost use Rattle.std.specs.Prelude.{◌≡◌, ◌≤◌};
 ghost use Rattle.am9517_service.specs.Answers.{run_refusal_number};
 ghost use Rattle.am9517_service.specs.RoundAnswers.{round_refusal_number};
