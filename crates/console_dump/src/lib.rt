@@ -1,4 +1,6 @@
 // Memory as lines of address, bytes and letters, for people.
+#![tactic(auto)]
+
 ghost use Rattle.std.specs.Prelude.{◌≡◌, ◌≤◌, length, take, drop};
 ghost use Rattle.console_text.specs.Text.{page, put};
 ghost use Rattle.console_dump.specs.Dump.{letter_of, letters as Dump·letters, cell_text, cells as Dump·cells, address_text, row_text, dump_text, dump_at, dump_of};

@@ -1,4 +1,6 @@
 // A record of a log in words. Nothing is promised but that this is safe and ends.
+#![tactic(auto)]
+
 use console_text::page::{decimal, hex, text};
 use logs::Record;
 use words::bits::is_set;
