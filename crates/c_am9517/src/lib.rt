@@ -1,5 +1,7 @@
 // The controller as a C library. The host owns the chip, a struct of plain numbers, and lends it to each call.
 // include/am9517.h tells the same in words.
+#![tactic(auto)]
+
 ghost use Rattle.std.specs.Prelude.{◌≡◌, length};
 ghost use Rattle.am9517.specs.State.{fresh};
 ghost use Rattle.am9517.specs.Answers.{write_of, read_of, pins_of, reset_of, waits_of, grant_of};
@@ -45,16 +47,14 @@ pub struct JudgeTold {
 }
 
 // The version of the library that is linked.
-#[unsafe(no_mangle)]
-pub extern "C" fn am9517_version() -> u32
+pub fn am9517_version() -> u32
     ensures { result ≡ version }
 {
     c_told::version()
 }
 
 // A fresh chip of this edition; one of no edition is refused by 1 in every call but a load.
-#[unsafe(no_mangle)]
-pub extern "C" fn am9517_fresh(edition: u32) -> Controller
+pub fn am9517_fresh(edition: u32) -> Controller
     ensures { result ≡ fresh (edition_byte edition) }
 {
     let mut chip = Controller::fresh(Edition::Am9517A);
@@ -63,16 +63,14 @@ pub extern "C" fn am9517_fresh(edition: u32) -> Controller
 }
 
 // 1 where a field is out of its range, else 0.
-#[unsafe(no_mangle)]
-pub extern "C" fn am9517_check(chip: &Controller) -> u32
+pub fn am9517_check(chip: &Controller) -> u32
     ensures { result ≡ (look_of chip.now 0).refusal }
 {
     calls::check(*chip)
 }
 
 // A byte is written to a register.
-#[unsafe(no_mangle)]
-pub extern "C" fn am9517_write(chip: &mut Controller, register: u32, byte: u8) -> u32
+pub fn am9517_write(chip: &mut Controller, register: u32, byte: u8) -> u32
     ensures { left chip.new (told result 0) ≡ call_of (write_of chip.old register byte) }
 {
     let done = calls::write(*chip, register, byte);
@@ -81,8 +79,7 @@ pub extern "C" fn am9517_write(chip: &mut Controller, register: u32, byte: u8) -
 }
 
 // A register is read.
-#[unsafe(no_mangle)]
-pub extern "C" fn am9517_read(chip: &mut Controller, register: u32) -> Told
+pub fn am9517_read(chip: &mut Controller, register: u32) -> Told
     ensures { left chip.new result ≡ call_of (read_of chip.old register) }
 {
     let done = calls::read(*chip, register);
@@ -91,8 +88,7 @@ pub extern "C" fn am9517_read(chip: &mut Controller, register: u32) -> Told
 }
 
 // The four DREQ pins take these levels.
-#[unsafe(no_mangle)]
-pub extern "C" fn am9517_pins(chip: &mut Controller, levels: u32) -> u32
+pub fn am9517_pins(chip: &mut Controller, levels: u32) -> u32
     ensures { left chip.new (told result 0) ≡ call_of (pins_of chip.old levels) }
 {
     let done = calls::pins(*chip, levels);
@@ -100,8 +96,7 @@ pub extern "C" fn am9517_pins(chip: &mut Controller, levels: u32) -> u32
     done.refusal
 }
 
-#[unsafe(no_mangle)]
-pub extern "C" fn am9517_reset(chip: &mut Controller) -> u32
+pub fn am9517_reset(chip: &mut Controller) -> u32
     ensures { left chip.new (told result 0) ≡ call_of (reset_of chip.old) }
 {
     let done = calls::reset(*chip);
@@ -110,8 +105,7 @@ pub extern "C" fn am9517_reset(chip: &mut Controller) -> u32
 }
 
 // The memory cards hold each transfer for so many states more.
-#[unsafe(no_mangle)]
-pub extern "C" fn am9517_waits(chip: &mut Controller, states: u8) -> u32
+pub fn am9517_waits(chip: &mut Controller, states: u8) -> u32
     ensures { left chip.new (told result 0) ≡ call_of (waits_of chip.old states) }
 {
     let done = calls::waits(*chip, states);
@@ -120,8 +114,7 @@ pub extern "C" fn am9517_waits(chip: &mut Controller, states: u8) -> u32
 }
 
 // The first entitled channel's service begins.
-#[unsafe(no_mangle)]
-pub extern "C" fn am9517_grant(chip: &mut Controller) -> Told
+pub fn am9517_grant(chip: &mut Controller) -> Told
     ensures { left chip.new result ≡ call_of (grant_of chip.old) }
 {
     let done = calls::grant(*chip);
@@ -130,24 +123,21 @@ pub extern "C" fn am9517_grant(chip: &mut Controller) -> Told
 }
 
 // The entitled channels, as four bits.
-#[unsafe(no_mangle)]
-pub extern "C" fn am9517_entitled(chip: &Controller) -> Told
+pub fn am9517_entitled(chip: &Controller) -> Told
     ensures { result ≡ look_of chip.now (set_of (entitled chip.now)) }
 {
     calls::entitled(*chip)
 }
 
 // The status byte, during a service too; nothing is cleared.
-#[unsafe(no_mangle)]
-pub extern "C" fn am9517_status(chip: &Controller) -> Told
+pub fn am9517_status(chip: &Controller) -> Told
     ensures { result ≡ look_of chip.now (status chip.now) }
 {
     calls::status(*chip)
 }
 
 // A run of the open service.
-#[unsafe(no_mangle)]
-pub extern "C" fn am9517_run(
+pub fn am9517_run(
     chip: &mut Controller,
     memory: &mut [u8],
     device: &[u8],
@@ -163,8 +153,7 @@ pub extern "C" fn am9517_run(
 }
 
 // The log of the open service, made by another replica, is judged.
-#[unsafe(no_mangle)]
-pub extern "C" fn am9517_judge(chip: &mut Controller, memory: &mut [u8], log: &[u8]) -> JudgeTold
+pub fn am9517_judge(chip: &mut Controller, memory: &mut [u8], log: &[u8]) -> JudgeTold
     ensures { judge_left chip.new result memory.new ≡ judge_call_of (length log.now) (judged_of chip.old memory.old log.now) }
 {
     let done = calls::judge(*chip, memory, log);
@@ -173,8 +162,7 @@ pub extern "C" fn am9517_judge(chip: &mut Controller, memory: &mut [u8], log: &[
 }
 
 // A round of up to k services.
-#[unsafe(no_mangle)]
-pub extern "C" fn am9517_round(
+pub fn am9517_round(
     chip: &mut Controller,
     memory: &mut [u8],
     device: &[u8],
@@ -189,16 +177,14 @@ pub extern "C" fn am9517_round(
 }
 
 // The chip's sheet of form 1 is written at the end of the slice.
-#[unsafe(no_mangle)]
-pub extern "C" fn am9517_save(chip: &Controller, sheet: &mut [u8]) -> u32
+pub fn am9517_save(chip: &Controller, sheet: &mut [u8]) -> u32
     ensures { saved result sheet.new ≡ save_of (sheet_write_of One chip.now sheet.old) }
 {
     calls::save(*chip, sheet)
 }
 
 // The sheet of form 1 at the end of the slice is read into the chip.
-#[unsafe(no_mangle)]
-pub extern "C" fn am9517_load(chip: &mut Controller, sheet: &[u8]) -> u32
+pub fn am9517_load(chip: &mut Controller, sheet: &[u8]) -> u32
     ensures { left chip.new (told result 0) ≡ load_of (sheet_read_of One chip.old sheet.now) }
 {
     let done = calls::load(*chip, sheet);
@@ -207,15 +193,13 @@ pub extern "C" fn am9517_load(chip: &mut Controller, sheet: &[u8]) -> u32
 }
 
 // The same in form 2, which holds the edition and the wait states.
-#[unsafe(no_mangle)]
-pub extern "C" fn am9517_save2(chip: &Controller, sheet: &mut [u8]) -> u32
+pub fn am9517_save2(chip: &Controller, sheet: &mut [u8]) -> u32
     ensures { saved result sheet.new ≡ save_of (sheet_write_of Two chip.now sheet.old) }
 {
     calls::save2(*chip, sheet)
 }
 
-#[unsafe(no_mangle)]
-pub extern "C" fn am9517_load2(chip: &mut Controller, sheet: &[u8]) -> u32
+pub fn am9517_load2(chip: &mut Controller, sheet: &[u8]) -> u32
     ensures { left chip.new (told result 0) ≡ load_of (sheet_read_of Two chip.old sheet.now) }
 {
     let done = calls::load2(*chip, sheet);
@@ -224,16 +208,14 @@ pub extern "C" fn am9517_load2(chip: &mut Controller, sheet: &[u8]) -> u32
 }
 
 // The sheet of form 1 at the end of `source` is written in form 2 at the end of `target`.
-#[unsafe(no_mangle)]
-pub extern "C" fn am9517_forward(source: &[u8], target: &mut [u8]) -> u32
+pub fn am9517_forward(source: &[u8], target: &mut [u8]) -> u32
     ensures { saved result target.new ≡ save_of (convert_of Two source.now target.old) }
 {
     sheet_number(am9517_sheet::convert(Form::Two, source, target))
 }
 
 // And one of form 2 in form 1.
-#[unsafe(no_mangle)]
-pub extern "C" fn am9517_back(source: &[u8], target: &mut [u8]) -> u32
+pub fn am9517_back(source: &[u8], target: &mut [u8]) -> u32
     ensures { saved result target.new ≡ save_of (convert_of One source.now target.old) }
 {
     sheet_number(am9517_sheet::convert(Form::One, source, target))
