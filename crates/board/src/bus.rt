@@ -5,6 +5,7 @@ ghost use Rattle.board.specs.Bus.{winner_of, winner, quiet};
 use crate::{Board, Chip};
 
 // Of both that want it the one not granted last, else the one that wants it.
+#[tactic(auto, unfolding(words::specs::Choice::when, crate::specs::Bus::winner_of))]
 pub(crate) fn winner_of(last: u8, first: bool, second: bool) -> Chip
     ensures { result ≡ winner_of last first second }
 {

@@ -1,5 +1,7 @@
 // The 7009 board: two controllers, eight lines, one memory, and the arbiter between them. Above the controller's crates, of which it sees
 // what their public functions promise. Each operation takes the board by value and hands the next one back.
+#![tactic(auto)]
+
 ghost use Rattle.std.specs.Prelude.{◌≡◌};
 ghost use Rattle.am9517.specs.Editions.{number_of};
 ghost use Rattle.am9517.specs.Refusals.{refusal};
