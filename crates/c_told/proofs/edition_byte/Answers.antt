@@ -1,5 +1,4 @@
 use borrow.Author.Tests.{lt-ltb, le-ltb}
-use borrow.Author.Rules.{rules}
 use Rattle.words.specs.Choice.{when}
 use Rattle.c_told.specs.Numbers.{edition_byte}
 use Rattle.c_told.proofs.edition_byte.Goals as goal

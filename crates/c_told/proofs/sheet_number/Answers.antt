@@ -1,8 +1,0 @@
-use borrow.Author.Rules.{rules}
-use Rattle.c_told.proofs.sheet_number.Goals as goal
-
-pub returns-in-Done : goal.returns-in-Done
-returns-in-Done c = rw c.in-Done.is
-
-pub returns-in-Refused : goal.returns-in-Refused
-returns-in-Refused c = rw (c.in-Refused.is, c.wide.ensures.0)
