@@ -1,4 +1,3 @@
--- One by one: in the closing list the searches keep their memory until its end.
 use Rattle.console_commands.specs.Doings.{arrays_do}
 use Rattle.console_commands.proofs.HoldingLaws.{stays_so, lent_so, poked_so, queued_so, roomed_so, stays_standing, lent_standing, queued_standing, roomed_standing}
 use mathlib.Core.Path.{refl}
@@ -76,123 +75,9 @@ returns-10 c =
     let entry = at-enum-told10.before.before.before.before.before.before.before.before in
     let s = entry.args in (simp at-enum-told10.enum-told10.given.1 (queued_so s.console _ s.memory.now s.queue.now s.room.now _ _ _ _ at-emptied.emptied.ensures.0 (at-emptied.emptied.ensures.1 s.queue.now)), queued_standing s.console _ _ _ entry.requires _ s.queue.now _ _ refl at-emptied.emptied.ensures.0 (at-emptied.emptied.ensures.1 s.queue.now))
 
-enum_told : tie.Need-enum-told
-enum_told = search rules
-
-lent-requires : tie.Need-lent-requires
-lent-requires = search rules
-
-enum-told-2 : tie.Need-enum-told-2
-enum-told-2 = search rules
-
-poke-requires : tie.Need-poke-requires
-poke-requires = search rules
-
-enum-told-3 : tie.Need-enum-told-3
-enum-told-3 = search rules
-
-peek-requires : tie.Need-peek-requires
-peek-requires = search rules
-
-enum-told-4 : tie.Need-enum-told-4
-enum-told-4 = search rules
-
-fed-requires : tie.Need-fed-requires
-fed-requires = search rules
-
-enum-told-5 : tie.Need-enum-told-5
-enum-told-5 = search rules
-
-filled-requires : tie.Need-filled-requires
-filled-requires = search rules
-
-enum-told-6 : tie.Need-enum-told-6
-enum-told-6 = search rules
-
-roomed-requires : tie.Need-roomed-requires
-roomed-requires = search rules
-
-enum-told-7 : tie.Need-enum-told-7
-enum-told-7 = search rules
-
-room-shown-requires : tie.Need-room-shown-requires
-room-shown-requires = search rules
-
-enum-told-8 : tie.Need-enum-told-8
-enum-told-8 = search rules
-
-dump-requires : tie.Need-dump-requires
-dump-requires = search rules
-
-enum-told-9 : tie.Need-enum-told-9
-enum-told-9 = search rules
-
-queue-shown-requires : tie.Need-queue-shown-requires
-queue-shown-requires = search rules
-
-enum-told-10 : tie.Need-enum-told-10
-enum-told-10 = search rules
-
-emptied-requires : tie.Need-emptied-requires
-emptied-requires = search rules
-
-same_length : tie.Need-same-length
-same_length = search rules
-
-same-length-2 : tie.Need-same-length-2
-same-length-2 = search rules
-
-same-length-3 : tie.Need-same-length-3
-same-length-3 = search rules
-
-same-length-4 : tie.Need-same-length-4
-same-length-4 = search rules
-
-same-length-5 : tie.Need-same-length-5
-same-length-5 = search rules
-
-same-length-6 : tie.Need-same-length-6
-same-length-6 = search rules
-
-same-length-7 : tie.Need-same-length-7
-same-length-7 = search rules
-
-same-length-8 : tie.Need-same-length-8
-same-length-8 = search rules
-
-same-length-9 : tie.Need-same-length-9
-same-length-9 = search rules
-
-same-length-10 : tie.Need-same-length-10
-same-length-10 = search rules
-
-same-length-11 : tie.Need-same-length-11
-same-length-11 = search rules
-
-same-length-12 : tie.Need-same-length-12
-same-length-12 = search rules
-
-same-length-13 : tie.Need-same-length-13
-same-length-13 = search rules
-
-same-length-14 : tie.Need-same-length-14
-same-length-14 = search rules
-
-same-length-15 : tie.Need-same-length-15
-same-length-15 = search rules
-
-same-length-16 : tie.Need-same-length-16
-same-length-16 = search rules
-
-same-length-17 : tie.Need-same-length-17
-same-length-17 = search rules
-
-same-length-18 : tie.Need-same-length-18
-same-length-18 = search rules
-
 pub on_arrays_spec : {M : Type 1} → statement M
-on_arrays_spec = tie.close (tie.spec enum_told lent-requires enum-told-2 poke-requires enum-told-3 peek-requires enum-told-4 fed-requires enum-told-5
-    filled-requires enum-told-6 roomed-requires enum-told-7 room-shown-requires enum-told-8 dump-requires enum-told-9 queue-shown-requires
-    enum-told-10 emptied-requires same_length returns same-length-2 same-length-3 returns-2 same-length-4 same-length-5 returns-3 same-length-6
-    same-length-7 returns-4 same-length-8 same-length-9 returns-5 same-length-10 same-length-11 returns-6 same-length-12 same-length-13 returns-7
-    same-length-14 same-length-15 returns-8 same-length-16 same-length-17 returns-9 same-length-18 returns-10)
+on_arrays_spec = tie.close (tie.spec (search rules) (search rules) (search rules) (search rules) (search rules) (search rules) (search rules)
+    (search rules) (search rules) (search rules) (search rules) (search rules) (search rules) (search rules) (search rules) (search rules)
+    (search rules) (search rules) (search rules) (search rules) (search rules) returns (search rules) (search rules) returns-2 (search rules)
+    (search rules) returns-3 (search rules) (search rules) returns-4 (search rules) (search rules) returns-5 (search rules) (search rules) returns-6
+    (search rules) (search rules) returns-7 (search rules) (search rules) returns-8 (search rules) (search rules) returns-9 (search rules) returns-10)

@@ -1,4 +1,3 @@
--- One by one: in the closing list the searches keep their memory until its end.
 use Rattle.console_arrays.specs.Services.{Service}
 use Rattle.board.specs.declared.Board.{Board}
 use Rattle.console_commands.proofs.HoldingLaws.{served_standing}
@@ -25,48 +24,6 @@ returns c =
     let next = ap (λ (x : Console). with_board x at-serve-board.serve-board.result.board) c.after-service.ensures in
     (service_so s.console s.memory.now s.queue.now s.room.now stood (λ (x : Board). s.console.controller) (λ (x : Board). x) asked _ at-serve-board.serve-board.result.board at-serve-board.serve-board.result.used at-serve-board.serve-board.result.written at-serve-board.serve-board.new.1.1.0 at-serve-board.serve-board.new.1.1.1.1.0 _ _ at-serve-board.serve-board.ensures size _ next, served_standing s.console _ _ _ stood _ _ _ _ _ next)
 
-sub-front : tie.Need-overflow-sub-front
-sub-front = search rules
-
-part-front-start : tie.Need-slice-bounds-front-start
-part-front-start = search rules
-
-part-front-end : tie.Need-slice-bounds-front-end
-part-front-end = search rules
-
-sub-device : tie.Need-overflow-sub-device
-sub-device = search rules
-
-part-device-start : tie.Need-slice-bounds-device-start
-part-device-start = search rules
-
-part-device-end : tie.Need-slice-bounds-device-end
-part-device-end = search rules
-
-sub-rest : tie.Need-overflow-sub-rest
-sub-rest = search rules
-
-part-rest-start : tie.Need-slice-bounds-rest-start
-part-rest-start = search rules
-
-part-rest-end : tie.Need-slice-bounds-rest-end
-part-rest-end = search rules
-
-serve-board-requires : tie.Need-serve-board-requires
-serve-board-requires = search rules
-
-after-service-requires : tie.Need-after-service-requires
-after-service-requires = search rules
-
-same_length : tie.Need-same-length
-same_length = search rules
-
-same-length-2 : tie.Need-same-length-2
-same-length-2 = search rules
-
-same-length-3 : tie.Need-same-length-3
-same-length-3 = search rules
-
 pub on_board_services_spec : {M : Type 1} → statement M
-on_board_services_spec = tie.close (tie.spec sub-front part-front-start part-front-end sub-device part-device-start part-device-end sub-rest
-    part-rest-start part-rest-end serve-board-requires after-service-requires same_length same-length-2 same-length-3 returns)
+on_board_services_spec = tie.close (tie.spec (search rules) (search rules) (search rules) (search rules) (search rules) (search rules) (search rules)
+    (search rules) (search rules) (search rules) (search rules) (search rules) (search rules) (search rules) returns)

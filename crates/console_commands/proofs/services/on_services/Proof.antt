@@ -1,4 +1,3 @@
--- One by one: in the closing list the searches keep their memory until its end.
 use Rattle.console_arrays.specs.Services.{Service}
 use Rattle.am9517.specs.declared.Controller.{Controller}
 use Rattle.console_commands.proofs.HoldingLaws.{served_standing}
@@ -25,51 +24,6 @@ returns c =
     let next = ap (λ (x : Console). with_controller x at-serve.serve.result.controller) c.after-service.ensures in
     (service_so s.console s.memory.now s.queue.now s.room.now stood (λ (x : Controller). x) (λ (x : Controller). s.console.board) asked _ at-serve.serve.result.controller at-serve.serve.result.used at-serve.serve.result.written at-serve.serve.new.1.1.0 at-serve.serve.new.1.1.1.1.0 _ _ at-serve.serve.ensures size _ next, served_standing s.console _ _ _ stood _ _ _ _ _ next)
 
-sub-front : tie.Need-overflow-sub-front
-sub-front = search rules
-
-part-front-start : tie.Need-slice-bounds-front-start
-part-front-start = search rules
-
-part-front-end : tie.Need-slice-bounds-front-end
-part-front-end = search rules
-
-sub-device : tie.Need-overflow-sub-device
-sub-device = search rules
-
-part-device-start : tie.Need-slice-bounds-device-start
-part-device-start = search rules
-
-part-device-end : tie.Need-slice-bounds-device-end
-part-device-end = search rules
-
-sub-rest : tie.Need-overflow-sub-rest
-sub-rest = search rules
-
-part-rest-start : tie.Need-slice-bounds-rest-start
-part-rest-start = search rules
-
-part-rest-end : tie.Need-slice-bounds-rest-end
-part-rest-end = search rules
-
-serve-requires : tie.Need-serve-requires
-serve-requires = search rules
-
-after-service-requires : tie.Need-after-service-requires
-after-service-requires = search rules
-
-same_length : tie.Need-same-length
-same_length = search rules
-
-same-length-2 : tie.Need-same-length-2
-same-length-2 = search rules
-
-same-length-3 : tie.Need-same-length-3
-same-length-3 = search rules
-
-same-length-4 : tie.Need-same-length-4
-same-length-4 = search rules
-
 pub on_services_spec : {M : Type 1} → statement M
-on_services_spec = tie.close (tie.spec sub-front part-front-start part-front-end sub-device part-device-start part-device-end sub-rest
-    part-rest-start part-rest-end serve-requires after-service-requires same_length same-length-2 same-length-3 same-length-4 returns)
+on_services_spec = tie.close (tie.spec (search rules) (search rules) (search rules) (search rules) (search rules) (search rules) (search rules)
+    (search rules) (search rules) (search rules) (search rules) (search rules) (search rules) (search rules) (search rules) returns)

@@ -1,4 +1,3 @@
--- One by one: in the closing list the searches keep their memory until its end.
 use Rattle.console_arrays.specs.Services.{serving}
 use Rattle.words.proofs.ChoiceLaws.{when_hit}
 use borrow.Author.Tests.{le-leb}
@@ -27,51 +26,7 @@ returns-3 c =
     let at_pre = at-enum-told3.before.before.before.before.before.before.before.before.before in
     simp at-enum-told3.enum-told3.given.1 (at-judge.judge.ensures _ ∙ ap (serving _) (when_hit _ _ _ (le-leb _ _ at_pre.requires)))
 
-enum_told : tie.Need-enum-told
-enum_told = search rules
-
-run-requires : tie.Need-run-requires
-run-requires = search rules
-
-enum-told-2 : tie.Need-enum-told-2
-enum-told-2 = search rules
-
-go-round-requires : tie.Need-go-round-requires
-go-round-requires = search rules
-
-enum-told-3 : tie.Need-enum-told-3
-enum-told-3 = search rules
-
-judge-requires : tie.Need-judge-requires
-judge-requires = search rules
-
-same_length : tie.Need-same-length
-same_length = search rules
-
-same-length-2 : tie.Need-same-length-2
-same-length-2 = search rules
-
-same-length-3 : tie.Need-same-length-3
-same-length-3 = search rules
-
-same-length-4 : tie.Need-same-length-4
-same-length-4 = search rules
-
-same-length-5 : tie.Need-same-length-5
-same-length-5 = search rules
-
-same-length-6 : tie.Need-same-length-6
-same-length-6 = search rules
-
-same-length-7 : tie.Need-same-length-7
-same-length-7 = search rules
-
-same-length-8 : tie.Need-same-length-8
-same-length-8 = search rules
-
-same-length-9 : tie.Need-same-length-9
-same-length-9 = search rules
-
 pub serve_spec : {M : Type 1} → statement M
-serve_spec = tie.close (tie.spec enum_told run-requires enum-told-2 go-round-requires enum-told-3 judge-requires same_length same-length-2
-    same-length-3 returns same-length-4 same-length-5 same-length-6 returns-2 same-length-7 same-length-8 same-length-9 returns-3)
+serve_spec = tie.close (tie.spec (search rules) (search rules) (search rules) (search rules) (search rules) (search rules) (search rules)
+    (search rules) (search rules) returns (search rules) (search rules) (search rules) returns-2 (search rules) (search rules) (search rules)
+    returns-3)

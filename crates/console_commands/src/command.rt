@@ -3,18 +3,16 @@ ghost use Rattle.std.specs.Prelude.{ℕ, ◌≤◌, List, length};
 ghost use Rattle.console_text.specs.Text.{page};
 ghost use Rattle.console_commands.specs.Holding.{holds, left, arrays, Done};
 ghost use Rattle.console_commands.specs.Doings.{does, execute_of};
-ghost use Rattle.console_commands.specs.Needs.{Standing};
-ghost use Rattle.console_lines.specs.Needs.{ForSome};
+ghost use Rattle.console_commands.specs.Needs.{Standing, ForSome};
 
-use crate::ending::{error_line, newline};
+use crate::Console;
+use crate::arrays::on_arrays;
+use crate::board_commands::on_board;
+use crate::chip::on_chip;
+use crate::holding::{Executed, error_line, newline, stands};
 use crate::people::on_people;
+use crate::services::{on_board_services, on_services};
 use console_chip::answers::error;
-use console_commands::arrays::on_arrays;
-use console_commands::board_commands::on_board;
-use console_commands::chip::on_chip;
-use console_commands::holding::stands;
-use console_commands::services::{on_board_services, on_services};
-use console_commands::{Console, Executed};
 use console_text::forms::{Command, command_of};
 use console_text::line::words_in;
 

@@ -4,8 +4,8 @@ use Rattle.words.specs.Choice.{when}
 use borrow.Author.Tests.{eq-eqb, ne_eqb}
 use mathlib.Core.Path.{sym, ◌∙◌}
 use borrow.Author.Rules.{rules}
-use Rattle.console_lines.proofs.ending.newline.Statement.{statement}
-use Rattle.console_lines.proofs.ending.newline.Tie as tie
+use Rattle.console_commands.proofs.holding.newline.Statement.{statement}
+use Rattle.console_commands.proofs.holding.newline.Tie as tie
 
 returns : tie.Need-returns
 unfolding ending when

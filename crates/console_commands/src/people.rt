@@ -1,10 +1,10 @@
 // The commands for people: of their texts nothing is promised but that they are put on the page.
 ghost use Rattle.console_text.specs.Text.{page};
-ghost use Rattle.console_lines.specs.Needs.{Tells};
+ghost use Rattle.console_commands.specs.Needs.{Tells};
 
+use crate::Console;
 use console_board_show::show_board;
 use console_chip::answers::error;
-use console_commands::Console;
 use console_show::{help, help_on, help_refusals, show, show_arrays, show_room};
 use console_text::forms::PeopleCommand;
 use console_text::line::same;

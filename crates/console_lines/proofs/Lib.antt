@@ -1,2 +1,0 @@
--- Laws of a line.
-pub mod LineLaws

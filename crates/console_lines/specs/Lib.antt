@@ -1,2 +1,0 @@
--- What functions of a line give their callers.
-pub mod Needs
