@@ -2,7 +2,7 @@
 ghost use Rattle.std.specs.Prelude.{◌≡◌};
 ghost use Rattle.am9517.specs.Answers.{refusal_number};
 ghost use Rattle.am9517_sheet.specs.declared.forms.Form.TheVariants.{One, Two};
-ghost use Rattle.board.specs.Answers.{board_write_of, board_pins_of, board_reset_of, board_grant_of};
+ghost use Rattle.board.specs.Answers.{board_write_of, board_read_of, board_pins_of, board_reset_of, board_grant_of};
 ghost use Rattle.board.specs.Runs.{board_ran_of};
 ghost use Rattle.board.specs.RoundAnswers.{board_rounded_of};
 ghost use Rattle.c_told.specs.Numbers.{told, saved};
@@ -127,6 +127,12 @@ pub(crate) fn write(b: Board, register: u32, byte: u8) -> Done
     ensures { left result.board (told result.refusal 0) ≡ call_of (board_write_of b register byte) }
 {
     done_of(b.write(register, byte))
+}
+
+pub(crate) fn read(b: Board, register: u32) -> Answered
+    ensures { left result.board result.said ≡ call_of (board_read_of b register) }
+{
+    answered_of(b.read(register))
 }
 
 pub(crate) fn pins(b: Board, levels: u32) -> Done
