@@ -1,5 +1,7 @@
 // The two-controller board as a C library. The host owns the board, a struct of plain numbers, and lends it to each call.
 // include/am9517_board.h tells the same in words.
+#![tactic(auto)]
+
 ghost use Rattle.std.specs.Prelude.{◌≡◌};
 ghost use Rattle.am9517_sheet.specs.declared.forms.Form.TheVariants.{One, Two};
 ghost use Rattle.board.specs.Chips.{fresh_board};
@@ -30,16 +32,14 @@ pub struct RoundTold {
 }
 
 // The version of the library that is linked.
-#[unsafe(no_mangle)]
-pub extern "C" fn am9517_board_version() -> u32
+pub fn am9517_board_version() -> u32
     ensures { result ≡ version }
 {
     c_told::version()
 }
 
 // A board of fresh chips of these editions; one with a chip of no edition is refused by 1 in every call but a load, and a save of the other chip.
-#[unsafe(no_mangle)]
-pub extern "C" fn am9517_board_fresh(first: u32, second: u32) -> Board
+pub fn am9517_board_fresh(first: u32, second: u32) -> Board
     ensures { result ≡ fresh_board (edition_byte first) (edition_byte second) }
 {
     let one = edition_byte(first);
@@ -51,16 +51,14 @@ pub extern "C" fn am9517_board_fresh(first: u32, second: u32) -> Board
 }
 
 // 1 where the pair is out of its ranges, else 0.
-#[unsafe(no_mangle)]
-pub extern "C" fn am9517_board_check(board: &Board) -> u32
+pub fn am9517_board_check(board: &Board) -> u32
     ensures { result ≡ (look_of board.now 0).refusal }
 {
     calls::check(*board)
 }
 
 // A byte is written to a register of the controller that bit 4 picks.
-#[unsafe(no_mangle)]
-pub extern "C" fn am9517_board_write(board: &mut Board, register: u32, byte: u8) -> u32
+pub fn am9517_board_write(board: &mut Board, register: u32, byte: u8) -> u32
     ensures { left board.new (told result 0) ≡ call_of (board_write_of board.old register byte) }
 {
     let done = calls::write(*board, register, byte);
@@ -69,8 +67,7 @@ pub extern "C" fn am9517_board_write(board: &mut Board, register: u32, byte: u8)
 }
 
 // A register of it is read.
-#[unsafe(no_mangle)]
-pub extern "C" fn am9517_board_read(board: &mut Board, register: u32) -> Told
+pub fn am9517_board_read(board: &mut Board, register: u32) -> Told
     ensures { left board.new result ≡ call_of (board_read_of board.old register) }
 {
     let done = reads::read(*board, register);
@@ -82,8 +79,7 @@ pub extern "C" fn am9517_board_read(board: &mut Board, register: u32) -> Told
 }
 
 // The eight lines take these levels.
-#[unsafe(no_mangle)]
-pub extern "C" fn am9517_board_pins(board: &mut Board, levels: u32) -> u32
+pub fn am9517_board_pins(board: &mut Board, levels: u32) -> u32
     ensures { left board.new (told result 0) ≡ call_of (board_pins_of board.old levels) }
 {
     let done = calls::pins(*board, levels);
@@ -92,8 +88,7 @@ pub extern "C" fn am9517_board_pins(board: &mut Board, levels: u32) -> u32
 }
 
 // Both controllers, and the arbiter.
-#[unsafe(no_mangle)]
-pub extern "C" fn am9517_board_reset(board: &mut Board) -> u32
+pub fn am9517_board_reset(board: &mut Board) -> u32
     ensures { left board.new (told result 0) ≡ call_of (board_reset_of board.old) }
 {
     let done = calls::reset(*board);
@@ -102,8 +97,7 @@ pub extern "C" fn am9517_board_reset(board: &mut Board) -> u32
 }
 
 // The memory cards hold each transfer of this chip for so many states more.
-#[unsafe(no_mangle)]
-pub extern "C" fn am9517_board_waits(board: &mut Board, which: u32, states: u8) -> u32
+pub fn am9517_board_waits(board: &mut Board, which: u32, states: u8) -> u32
     ensures { left board.new (told result 0) ≡ waits_call_of board.old which states }
 {
     let done = calls::waits(*board, which, states);
@@ -112,8 +106,7 @@ pub extern "C" fn am9517_board_waits(board: &mut Board, which: u32, states: u8) 
 }
 
 // The service of the controller that gets the bus begins; the channel is one of eight.
-#[unsafe(no_mangle)]
-pub extern "C" fn am9517_board_grant(board: &mut Board) -> Told
+pub fn am9517_board_grant(board: &mut Board) -> Told
     ensures { left board.new result ≡ call_of (board_grant_of board.old) }
 {
     let done = calls::grant(*board);
@@ -122,16 +115,14 @@ pub extern "C" fn am9517_board_grant(board: &mut Board) -> Told
 }
 
 // The entitled channels, as eight bits.
-#[unsafe(no_mangle)]
-pub extern "C" fn am9517_board_entitled(board: &Board) -> Told
+pub fn am9517_board_entitled(board: &Board) -> Told
     ensures { result ≡ look_of board.now (entitled_of board.now) }
 {
     calls::entitled(*board)
 }
 
 // A run of the open service.
-#[unsafe(no_mangle)]
-pub extern "C" fn am9517_board_run(
+pub fn am9517_board_run(
     board: &mut Board,
     memory: &mut [u8],
     device: &[u8],
@@ -147,8 +138,7 @@ pub extern "C" fn am9517_board_run(
 }
 
 // A round of up to k services over both controllers.
-#[unsafe(no_mangle)]
-pub extern "C" fn am9517_board_round(
+pub fn am9517_board_round(
     board: &mut Board,
     memory: &mut [u8],
     device: &[u8],
@@ -163,16 +153,14 @@ pub extern "C" fn am9517_board_round(
 }
 
 // The sheet of form 1 of this chip is written at the end of the slice.
-#[unsafe(no_mangle)]
-pub extern "C" fn am9517_board_save(board: &Board, which: u32, sheet: &mut [u8]) -> u32
+pub fn am9517_board_save(board: &Board, which: u32, sheet: &mut [u8]) -> u32
     ensures { saved result sheet.new ≡ save_call_of One board.now which sheet.old }
 {
     calls::save(*board, which, sheet)
 }
 
 // The sheet of form 1 at the end of the slice is read into this chip.
-#[unsafe(no_mangle)]
-pub extern "C" fn am9517_board_load(board: &mut Board, which: u32, sheet: &[u8]) -> u32
+pub fn am9517_board_load(board: &mut Board, which: u32, sheet: &[u8]) -> u32
     ensures { left board.new (told result 0) ≡ load_call_of One board.old which sheet.now }
 {
     let done = calls::load(*board, which, sheet);
@@ -181,15 +169,13 @@ pub extern "C" fn am9517_board_load(board: &mut Board, which: u32, sheet: &[u8])
 }
 
 // The same in form 2, which holds the edition and the wait states.
-#[unsafe(no_mangle)]
-pub extern "C" fn am9517_board_save2(board: &Board, which: u32, sheet: &mut [u8]) -> u32
+pub fn am9517_board_save2(board: &Board, which: u32, sheet: &mut [u8]) -> u32
     ensures { saved result sheet.new ≡ save_call_of Two board.now which sheet.old }
 {
     calls::save2(*board, which, sheet)
 }
 
-#[unsafe(no_mangle)]
-pub extern "C" fn am9517_board_load2(board: &mut Board, which: u32, sheet: &[u8]) -> u32
+pub fn am9517_board_load2(board: &mut Board, which: u32, sheet: &[u8]) -> u32
     ensures { left board.new (told result 0) ≡ load_call_of Two board.old which sheet.now }
 {
     let done = calls::load2(*board, which, sheet);

@@ -1,0 +1,5 @@
+use borrow.Author.Rules.{rules}
+use Rattle.c_board.proofs.calls.answered_of.Goals as goal
+
+pub returns : goal.returns
+returns c = rw c.told_of-said.ensures

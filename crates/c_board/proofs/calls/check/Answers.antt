@@ -1,0 +1,7 @@
+use mathlib.Core.Path.{ap}
+use Rattle.c_told.specs.declared.Told.{Told}
+use borrow.Author.Rules.{rules}
+use Rattle.c_board.proofs.calls.check.Goals as goal
+
+pub returns : goal.returns
+returns c = ap (λ (t : Told). t.refusal) c.shown.ensures

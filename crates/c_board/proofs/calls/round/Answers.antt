@@ -1,0 +1,7 @@
+use mathlib.Core.Path.{ap}
+use Rattle.c_board.specs.Host.{round_call_of}
+use borrow.Author.Rules.{rules}
+use Rattle.c_board.proofs.calls.round.Goals as goal
+
+pub returns : goal.returns
+returns c = rw c.round_told_of-said.ensures (ap round_call_of c.before.before.before.before.before.before.round-rounded.ensures.0)

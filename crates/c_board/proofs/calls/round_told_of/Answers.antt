@@ -1,0 +1,5 @@
+use borrow.Author.Rules.{rules}
+use Rattle.c_board.proofs.calls.round_told_of.Goals as goal
+
+pub returns : goal.returns
+returns c = rw c.before.round_pair-pair.ensures

@@ -1,0 +1,7 @@
+use mathlib.Core.Path.{ap}
+use Rattle.c_board.specs.Host.{run_call_of}
+use borrow.Author.Rules.{rules}
+use Rattle.c_board.proofs.calls.run.Goals as goal
+
+pub returns : goal.returns
+returns c = rw c.run_told_of-said.ensures (ap run_call_of c.before.before.before.before.before.before.before.run-ran.ensures.0)

@@ -1,0 +1,6 @@
+use Rattle.c_board.proofs.CallLaws.{number_only}
+use borrow.Author.Rules.{rules}
+use Rattle.c_board.proofs.calls.write.Goals as goal
+
+pub returns : goal.returns
+returns c = rw (c.done_of.ensures, c.before.write.ensures.0) (number_only _ _ _)
