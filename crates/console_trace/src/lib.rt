@@ -1,5 +1,7 @@
 // A run or a round transfer by transfer: for each a record, and a line for people. It is made beforehand, on a copy of the memory. Nothing is
 // promised but that this is safe and ends.
+#![tactic(auto)]
+
 use am9517::Controller;
 
 mod asked;
@@ -25,7 +27,7 @@ pub struct Course {
 }
 
 // How far it has come, the place behind its lines and that behind its records.
-#[derive(Drop)]
+#[derive(Clone, Copy)]
 pub struct Traced {
     pub course: Course,
     pub at: usize,
