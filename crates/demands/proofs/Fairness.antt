@@ -197,16 +197,16 @@ grant_linked s false later e l = l
 linked_of : (s : Controller) (ops : List Op) → Path s ops → Linked s.lowest (grants s ops)
 unfolding outcome
 linked_of s [] u = last
-linked_of s (Write r b ∷ ops) u = linked_from (write_kept s r b u.1) (linked_of _ ops u.2)
-linked_of s (Read r ∷ ops) u = linked_from (read_kept s r) (linked_of _ ops u.2)
-linked_of s (Pins p ∷ ops) u = linked_from (pins_kept s p) (linked_of _ ops u.2)
-linked_of s (Waits n ∷ ops) u = linked_from (waits_kept s n) (linked_of _ ops u.2)
-linked_of s (Reset ∷ ops) u = linked_from (reset_kept s u.1) (linked_of _ ops u.2)
-linked_of s (Grant ∷ ops) u = grant_linked s _ _ refl (linked_of _ ops u.2)
-linked_of s (Run m d r limit eop ∷ ops) u = linked_from (run_kept s m d r limit eop) (linked_of _ ops u.2)
+linked_of s (Write r b ∷ ops) u = linked_from (write_kept s r b u.1) (linked_of (next s (Write r b)) ops u.2)
+linked_of s (Read r ∷ ops) u = linked_from (read_kept s r) (linked_of (next s (Read r)) ops u.2)
+linked_of s (Pins p ∷ ops) u = linked_from (pins_kept s p) (linked_of (next s (Pins p)) ops u.2)
+linked_of s (Waits n ∷ ops) u = linked_from (waits_kept s n) (linked_of (next s (Waits n)) ops u.2)
+linked_of s (Reset ∷ ops) u = linked_from (reset_kept s u.1) (linked_of (next s Reset) ops u.2)
+linked_of s (Grant ∷ ops) u = grant_linked s _ _ refl (linked_of (next s Grant) ops u.2)
+linked_of s (Run m d r limit eop ∷ ops) u = linked_from (run_kept s m d r limit eop) (linked_of (next s (Run m d r limit eop)) ops u.2)
 linked_of s (Round m d r k ∷ ops) u = absurd u.0
 linked_of s (SheetWriting form out ∷ ops) u = linked_of s ops u.2
-linked_of s (SheetReading form bytes ∷ ops) u = linked_from (reading_kept s form bytes u.1) (linked_of _ ops u.2)
+linked_of s (SheetReading form bytes ∷ ops) u = linked_from (reading_kept s form bytes u.1) (linked_of (next s (SheetReading form bytes)) ops u.2)
 linked_of s (Converting to source out ∷ ops) u = linked_of s ops u.2
 
 -- a round's calls, and operations with rounds among them, are calls of a trace
@@ -254,16 +254,16 @@ grant_stays s false later low e none h = h none
 lowest_stays : (s : Controller) (ops : List Op) → Path s ops → grants s ops ≡ [] → (after_all s ops).lowest ≡ s.lowest
 unfolding outcome
 lowest_stays s [] u e = refl
-lowest_stays s (Write r b ∷ ops) u e = lowest_stays _ ops u.2 e ∙ write_kept s r b u.1
-lowest_stays s (Read r ∷ ops) u e = lowest_stays _ ops u.2 e ∙ read_kept s r
-lowest_stays s (Pins p ∷ ops) u e = lowest_stays _ ops u.2 e ∙ pins_kept s p
-lowest_stays s (Waits n ∷ ops) u e = lowest_stays _ ops u.2 e ∙ waits_kept s n
-lowest_stays s (Reset ∷ ops) u e = lowest_stays _ ops u.2 e ∙ reset_kept s u.1
-lowest_stays s (Grant ∷ ops) u e = grant_stays s _ _ _ refl e (lowest_stays _ ops u.2)
-lowest_stays s (Run m d r limit eop ∷ ops) u e = lowest_stays _ ops u.2 e ∙ run_kept s m d r limit eop
+lowest_stays s (Write r b ∷ ops) u e = lowest_stays (next s (Write r b)) ops u.2 e ∙ write_kept s r b u.1
+lowest_stays s (Read r ∷ ops) u e = lowest_stays (next s (Read r)) ops u.2 e ∙ read_kept s r
+lowest_stays s (Pins p ∷ ops) u e = lowest_stays (next s (Pins p)) ops u.2 e ∙ pins_kept s p
+lowest_stays s (Waits n ∷ ops) u e = lowest_stays (next s (Waits n)) ops u.2 e ∙ waits_kept s n
+lowest_stays s (Reset ∷ ops) u e = lowest_stays (next s Reset) ops u.2 e ∙ reset_kept s u.1
+lowest_stays s (Grant ∷ ops) u e = grant_stays s _ _ _ refl e (lowest_stays (next s Grant) ops u.2)
+lowest_stays s (Run m d r limit eop ∷ ops) u e = lowest_stays (next s (Run m d r limit eop)) ops u.2 e ∙ run_kept s m d r limit eop
 lowest_stays s (Round m d r k ∷ ops) u e = absurd u.0
 lowest_stays s (SheetWriting form out ∷ ops) u e = lowest_stays s ops u.2 e
-lowest_stays s (SheetReading form bytes ∷ ops) u e = lowest_stays _ ops u.2 e ∙ reading_kept s form bytes u.1
+lowest_stays s (SheetReading form bytes ∷ ops) u e = lowest_stays (next s (SheetReading form bytes)) ops u.2 e ∙ reading_kept s form bytes u.1
 lowest_stays s (Converting to source out ∷ ops) u e = lowest_stays s ops u.2 e
 
 pub lowest_kept : LowestKept
@@ -275,14 +275,14 @@ module _ (c : ℕ) (small : c < 4) where
 
   turns_linked : {low : ℕ} (window rest : List Granted) → Linked low (window ++ rest) → All (Contends c) window → Turns c low (channels window)
   turns_linked [] rest l h = over
-  turns_linked (g ∷ window) rest (link at below is l) (also h hs) =
+  turns_linked {low = low} (g ∷ window) rest (link at below is l) (also h hs) =
       let p : Early g.before.lowest (place g.before.lowest c) g.channel = rw is (picked_early g.before c small h.rotation h.entitled) in
       turns_from at
-      (then (omega (arith, at, below)) p.channel p.place (turns_from (lowest_granted g.before g.channel h.rotation) (turns_linked window rest l hs)))
+      (then (omega (arith, at, below)) p.channel p.place (turns_from (lowest_granted g.before g.channel h.rotation) (turns_linked {low = (granted g.before g.channel).lowest} window rest l hs)))
 
   fair_window : {low : ℕ} (past window rest : List Granted) → Linked low (past ++ (window ++ rest)) → All (Contends c) window → Fair c (channels window)
   fair_window [] window rest l h = turns_fair c small (channels window) (turns_linked window rest l h)
-  fair_window (g ∷ past) window rest (link at below is l) h = fair_window past window rest l h
+  fair_window {low = low} (g ∷ past) window rest (link at below is l) h = fair_window {low = (granted g.before g.channel).lowest} past window rest l h
 
 pub demand_3 : Demand3
 demand_3 s ops c past window rest small u same h =
