@@ -41,7 +41,8 @@ use Rattle.board.specs.Answers.{board_outcome, pinned, board_cleared, board_pins
 use Rattle.board.specs.Runs.{server, BoardGiven, board_given, refused_on, served_by, board_ran_of}
 use Rattle.board.specs.Round.{BoardCourse, board_course, board_beginning, service_next, with_service, after_service, BoardClose, board_close, board_round_of}
 use Rattle.board.specs.RoundAnswers.{BoardRoundGiven, board_closed, board_rounded_of}
-use Rattle.board_demands.specs.Alone.{Aside, register_of, levels_of, outcome_on, grant_on, reset_on, services_on, begun, RoundOn, Alone, next_on, behind, AloneThroughout}
+use Rattle.board_demands.specs.Alone.{Aside, register_of, levels_of, outcome_on, grant_on, services_on, RoundOn, Alone}
+use Rattle.board_demands.specs.Throughout.{reset_on, begun, RoundOnBus, AloneAndArbiter, next_on, behind, AloneThroughout}
 use Rattle.words.proofs.ChoiceLaws.{when_both, when_hit, when_miss, both}
 use Rattle.board.proofs.ChipLaws.{chip_back}
 use Rattle.board.proofs.OutcomeLaws.{Pair, carried_is, picked_few, reset_passed, chip_reset, grant_passed}
@@ -452,16 +453,16 @@ round_number b which m k a = rw (pair_own b which a, serves_own b which a) refl
 
 -- what a close gives
 closed_own : (b : Board) (which : Chip) (y : Close)
-    → RoundOn b which (board_closed (board_close (on_board which (chip b (other which)) (when (eqb (begun y.course.services) 0) b.granted_last (number_of which)) y.course) y.answer)) (closed y)
+    → RoundOnBus b which (board_closed (board_close (on_board which (chip b (other which)) (when (eqb (begun y.course.services) 0) b.granted_last (number_of which)) y.course) y.answer)) (closed y)
 unfolding board_closed closed
-closed_own b First y = record { leaves = refl; stays = refl; last = refl; answer = refl; services = refl; totals = refl; memory = refl; room = refl }
-closed_own b Second y = record { leaves = refl; stays = refl; last = refl; answer = refl; services = refl; totals = refl; memory = refl; room = refl }
+closed_own b First y = record { round = record { leaves = refl; stays = refl; answer = refl; services = refl; totals = refl; memory = refl; room = refl }; last = refl }
+closed_own b Second y = record { round = record { leaves = refl; stays = refl; answer = refl; services = refl; totals = refl; memory = refl; room = refl }; last = refl }
 
 began_own : (b : Board) (which : Chip) (m r : List ℕ) → board_beginning b m r ≡ on_board which (chip b (other which)) b.granted_last (beginning (chip b which) m r)
 began_own b First m r = refl
 began_own b Second m r = refl
 
-round_own : (b : Board) (which : Chip) → Aside b which → (m d r : List ℕ) (k : ℕ) → RoundOn b which (board_rounded_of b m d r k) (rounded_of (chip b which) m d r k)
+round_own : (b : Board) (which : Chip) → Aside b which → (m d r : List ℕ) (k : ℕ) → RoundOnBus b which (board_rounded_of b m d r k) (rounded_of (chip b which) m d r k)
 unfolding board_rounded_of rounded_of when
 round_own b which a m d r k =
     let o = chip b (other which) in
@@ -469,11 +470,23 @@ round_own b which a m d r k =
     let v = beginning c m r in
     let n = refusal (round_grounds c m k) in
     let on : ℕ → BoardCourse → BoardRoundGiven = λ i w. when (eqb i 0) (board_closed (board_round_of k d w)) (board_closed (board_close w (Refused i))) in
-    subst (λ (i : ℕ). RoundOn b which (on i (board_beginning b m r)) (rounded_of c m d r k)) (sym (round_number b which m k a))
-    (subst (λ (w : BoardCourse). RoundOn b which (on n w) (rounded_of c m d r k)) (sym (began_own b which m r))
-    (when_two (RoundOn b which) (eqb n 0)
-    (λ e. subst (λ (x : BoardClose). RoundOn b which (board_closed x) (closed (round_of k d v))) (sym (round_on which o a.quiet d k b.granted_last v refl)) (closed_own b which (round_of k d v)))
+    subst (λ (i : ℕ). RoundOnBus b which (on i (board_beginning b m r)) (rounded_of c m d r k)) (sym (round_number b which m k a))
+    (subst (λ (w : BoardCourse). RoundOnBus b which (on n w) (rounded_of c m d r k)) (sym (began_own b which m r))
+    (when_two (RoundOnBus b which) (eqb n 0)
+    (λ e. subst (λ (x : BoardClose). RoundOnBus b which (board_closed x) (closed (round_of k d v))) (sym (round_on which o a.quiet d k b.granted_last v refl)) (closed_own b which (round_of k d v)))
     (λ e. closed_own b which (close v (Refused n)))))
+
+reset_by : (b : Board) (which : Chip) (n : ℕ) (t : Bool) → chip (when t (board_cleared b) b) which ≡ when t (cleared (chip b which)) (chip b which)
+unfolding when
+reset_by b First n true = refl
+reset_by b First n false = refl
+reset_by b Second n true = refl
+reset_by b Second n false = refl
+
+reset_chip : (b : Board) (which : Chip) → Aside b which
+    → (chip (board_reset_of b).board which ≡ (reset_of (chip b which)).controller) × ((board_reset_of b).answer ≡ (reset_of (chip b which)).answer)
+unfolding outcome board_outcome
+reset_chip b which a = rw (reset_number b which a) (reset_by b which 0 _, refl)
 
 pub alone : Alone
 alone b which a =
@@ -486,9 +499,12 @@ alone b which a =
           ∙ sym (carried_is _ b which (put (chip b which) Waits n) Done _ refl);
       grant = grant_own b which a;
       run = run_own b which a;
-      round = round_own b which a;
-      reset = reset_own b which a;
+      round = λ m d r k. (round_own b which a m d r k).round;
+      reset = reset_chip b which a;
     }
+
+pub alone_and_arbiter : AloneAndArbiter
+alone_and_arbiter b which a = record { round = round_own b which a; reset = reset_own b which a }
 
 -- Behind an operation of the chip the other is still aside, and the chip is its own.
 record Kept (x : Board) (which : Chip) (c : Controller) : Type 0 where
@@ -545,14 +561,14 @@ number_few First = omega arith
 number_few Second = omega arith
 
 -- a round leaves the other, and the arbiter in its range
-round_kept : (b : Board) (which : Chip) (x : BoardRoundGiven) (y : RoundGiven) → Aside b which → RoundOn b which x y → Kept x.rounded.board which y.rounded.controller
+round_kept : (b : Board) (which : Chip) (x : BoardRoundGiven) (y : RoundGiven) → Aside b which → RoundOnBus b which x y → Kept x.rounded.board which y.rounded.controller
 round_kept b which x y a r =
     record {
-      leaves = r.leaves;
+      leaves = r.round.leaves;
       aside = record {
-        range = ap valid r.stays ∙ a.range;
-        idle = ap busy r.stays ∙ a.idle;
-        quiet = ap nobody r.stays ∙ a.quiet;
+        range = ap valid r.round.stays ∙ a.range;
+        idle = ap busy r.round.stays ∙ a.idle;
+        quiet = ap nobody r.round.stays ∙ a.quiet;
         last = subst (λ (n : ℕ). n ≤ 1) (sym r.last) (when_both (λ (n : ℕ). n ≤ 1) _ a.last (number_few which));
       };
     }
@@ -571,7 +587,7 @@ next_kept b which a without.Grant =
     subst (λ (o : BoardOutcome). Kept o.board which (without.next (chip b which) without.Grant)) (sym (alone b which a).grant) (grant_kept b which a)
 next_kept b which a (without.Run m d r limit eop) =
     subst (λ (g : BoardGiven). Kept g.ran.board which (without.next (chip b which) (without.Run m d r limit eop))) (sym ((alone b which a).run m d r limit eop)) (put_kept b which a _)
-next_kept b which a (without.Round m d r k) = round_kept b which _ _ a ((alone b which a).round m d r k)
+next_kept b which a (without.Round m d r k) = round_kept b which _ _ a ((alone_and_arbiter b which a).round m d r k)
 next_kept b which a (without.SheetWriting form out) = so_kept b which a
 next_kept b which a (without.SheetReading form bytes) = put_kept b which a _
 next_kept b which a (without.Converting to source out) = so_kept b which a

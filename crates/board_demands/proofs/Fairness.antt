@@ -157,14 +157,14 @@ module _ (which : Chip) (n : ℕ) (small : n < 4) where
 
   turns_linked : {low l : ℕ} (window rest : List BoardGranted) → Linked which low l (window ++ rest) → All (Contends which n) window → BoardTurns w n low l (channels window)
   turns_linked [] rest k h = over
-  turns_linked (g ∷ window) rest (link at below is_last most is k) (also h hs) =
-      turns_from at is_last (step g h (omega (arith, at, below)) (omega (arith, is_last, most)) is (won g.before which (omega (arith, is_last, most)) (some g h (omega (arith, at, below)) (omega (arith, is_last, most)) is)) (turns_linked window rest k hs))
+  turns_linked {low = low} {l = l} (g ∷ window) rest (link at below is_last most is k) (also h hs) =
+      turns_from at is_last (step g h (omega (arith, at, below)) (omega (arith, is_last, most)) is (won g.before which (omega (arith, is_last, most)) (some g h (omega (arith, at, below)) (omega (arith, is_last, most)) is)) (turns_linked {low = (chip (granted_to g.before) which).lowest} {l = (granted_to g.before).granted_last} window rest k hs))
 
   fair_window : {low l : ℕ} (past window rest : List BoardGranted) → Linked which low l (past ++ (window ++ rest)) → All (Contends which n) window → BoardFair which n (channels window)
   fair_window [] window rest k h =
       let ts = turns_linked window rest k h in
       record { share = turns_share w n small (channels window) ts; turn = turns_turn w n small (channels window) ts; lead = turns_lead w n small (channels window) ts }
-  fair_window (g ∷ past) window rest (link at below is_last most is k) h = fair_window past window rest k h
+  fair_window {low = low} {l = l} (g ∷ past) window rest (link at below is_last most is k) h = fair_window {low = (chip (granted_to g.before) which).lowest} {l = (granted_to g.before).granted_last} past window rest k h
 
 -- Nothing moves: each lowest channel, and the arbiter.
 pub record Unmoved (b x : Board) : Type 0 where
@@ -306,16 +306,16 @@ granting which b later l = grant_linked which b _ later refl l
 -- the grants of operations are linked
 linked_of : (which : Chip) (b : Board) (ops : List BoardOp) → Trace b ops → Linked which (chip b which).lowest b.granted_last (grants b ops)
 linked_of which b [] u = last
-linked_of which b (Write r x ∷ ops) u = unmoved_linked which b _ _ (write_unmoved b r x u.0) (linked_of which _ ops u.1)
-linked_of which b (Read r ∷ ops) u = unmoved_linked which b _ _ (read_unmoved b r) (linked_of which _ ops u.1)
-linked_of which b (Pins p ∷ ops) u = unmoved_linked which b _ _ (pins_unmoved b p) (linked_of which _ ops u.1)
-linked_of which b (Reset ∷ ops) u = unmoved_linked which b _ _ (reset_unmoved b u.0) (linked_of which _ ops u.1)
-linked_of which b (Waits chip n ∷ ops) u = unmoved_linked which b _ _ (waits_unmoved b chip n) (linked_of which _ ops u.1)
-linked_of which b (Grant ∷ ops) u = granting which b _ (linked_of which _ ops u.1)
-linked_of which b (Run m d r limit eop ∷ ops) u = unmoved_linked which b _ _ (run_unmoved b m d r limit eop) (linked_of which _ ops u.1)
-linked_of which b (Round m d r k ∷ ops) u = round_linked which b m d r k _ (linked_of which _ ops u.1)
+linked_of which b (Write r x ∷ ops) u = unmoved_linked which b _ _ (write_unmoved b r x u.0) (linked_of which (next b (Write r x)) ops u.1)
+linked_of which b (Read r ∷ ops) u = unmoved_linked which b _ _ (read_unmoved b r) (linked_of which (next b (Read r)) ops u.1)
+linked_of which b (Pins p ∷ ops) u = unmoved_linked which b _ _ (pins_unmoved b p) (linked_of which (next b (Pins p)) ops u.1)
+linked_of which b (Reset ∷ ops) u = unmoved_linked which b _ _ (reset_unmoved b u.0) (linked_of which (next b Reset) ops u.1)
+linked_of which b (Waits chip n ∷ ops) u = unmoved_linked which b _ _ (waits_unmoved b chip n) (linked_of which (next b (Waits chip n)) ops u.1)
+linked_of which b (Grant ∷ ops) u = granting which b _ (linked_of which (next b Grant) ops u.1)
+linked_of which b (Run m d r limit eop ∷ ops) u = unmoved_linked which b _ _ (run_unmoved b m d r limit eop) (linked_of which (next b (Run m d r limit eop)) ops u.1)
+linked_of which b (Round m d r k ∷ ops) u = round_linked which b m d r k _ (linked_of which (next b (Round m d r k)) ops u.1)
 linked_of which b (SheetWriting form chip out ∷ ops) u = linked_of which b ops u.1
-linked_of which b (SheetReading form chip bytes ∷ ops) u = unmoved_linked which b _ _ (reading_unmoved b form chip bytes u.0) (linked_of which _ ops u.1)
+linked_of which b (SheetReading form chip bytes ∷ ops) u = unmoved_linked which b _ _ (reading_unmoved b form chip bytes u.0) (linked_of which (next b (SheetReading form chip bytes)) ops u.1)
 
 pub board_demand_3 : BoardDemand3
 board_demand_3 b ops which n past window rest small u same h =

@@ -9,3 +9,4 @@ pub mod Reports
 pub mod Rounds
 pub mod Outcomes
 pub mod Board
+pub mod Further

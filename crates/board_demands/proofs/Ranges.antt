@@ -306,6 +306,7 @@ NotOne x = x.gives ≡ 1 → x.holds ≡ false
 
 none_first : (gs : List (Ground ℕ)) → All NotOne gs → ¬ alone-refusals.First 1 gs
 none_first gs (also p ps) (here e q) = never (sym e ∙ p q)
+none_first _ none x = elim x [ ]
 none_first gs (also p ps) (later e f) = none_first _ ps f
 
 -- a ground of another number

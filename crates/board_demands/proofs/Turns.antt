@@ -82,8 +82,8 @@ module _ (w n : ℕ) (small : n < 4) where
 
   turns_prefix : {low last : ℕ} (some rest : List ℕ) → BoardTurns w n low last (some ++ rest) → BoardTurns w n low last some
   turns_prefix [] rest ts = over
-  turns_prefix (x ∷ some) rest (own_turn hl he h ts) = own_turn hl he h (turns_prefix some rest ts)
-  turns_prefix (x ∷ some) rest (other_turn el hv hx ts) = other_turn el hv hx (turns_prefix some rest ts)
+  turns_prefix {low = low} {last = last} (_ ∷ some) rest (own_turn {e = e} hl he h ts) = own_turn hl he h (turns_prefix {low = e} {last = w} some rest ts)
+  turns_prefix {low = low} {last = last} (x ∷ some) rest (other_turn {v = v} el hv hx ts) = other_turn el hv hx (turns_prefix {low = low} {last = v} some rest ts)
 
   place_most : (low : ℕ) → place low n ≤ 3
   place_most low = omega arith
@@ -91,8 +91,8 @@ module _ (w n : ℕ) (small : n < 4) where
   -- the same of any stretch, wherever it begins
   stretch_bound : {low last : ℕ} (past some rest : List ℕ) → BoardTurns w n low last (past ++ (some ++ rest)) → length some ≤ 8 * count c some + 7
   stretch_bound {low = low} {last = last} [] some rest ts = omega (arith, length_bound (turns_prefix some rest ts), place_most low, turn_most w last)
-  stretch_bound (x ∷ past) some rest (own_turn hl he h ts) = stretch_bound past some rest ts
-  stretch_bound (x ∷ past) some rest (other_turn el hv hx ts) = stretch_bound past some rest ts
+  stretch_bound {low = low} {last = last} (_ ∷ past) some rest (own_turn {e = e} hl he h ts) = stretch_bound {low = e} {last = w} past some rest ts
+  stretch_bound {low = low} {last = last} (_ ∷ past) some rest (other_turn {v = v} el hv hx ts) = stretch_bound {low = low} {last = v} past some rest ts
 
   -- its own chip's channels by themselves: turns of that chip
   abbrev mine : {low last : ℕ} {es : List ℕ} → BoardTurns w n low last es → List ℕ

@@ -1,18 +1,14 @@
 -- Document 02, A9, as one statement. Its one theorem is `board_demands_lem`.
 use Rattle.board_demands.specs.Refusals.{BoardDemand1}
-use Rattle.board_demands.specs.Calls.{BoardDemand1OfCalls}
 use Rattle.board_demands.specs.Outcomes.{OneOutcomeOfBoard, OneOutcomeOfBoardCalls}
 use Rattle.board_demands.specs.Ranges.{BoardRangesKept}
 use Rattle.board_demands.specs.Fairness.{BoardDemand3, RoundGrantsAreGrants, BoardReports}
-use Rattle.board_demands.specs.Rounds.{BoardRoundIsCalls, BoardRoundStops}
-use Rattle.board_demands.specs.Alone.{Alone, AloneThroughout}
+use Rattle.board_demands.specs.Alone.{Alone}
 use Rattle.board_demands.specs.Cases.{BoardTight}
 
 pub record BoardDemands : Type 2 where
-  -- "Demands 1 and 2 read for the pair": a refusal says its number, exactly when its ground is the first that holds, and changes nothing; so
-  -- does each call for C, where a number that names no chip is refused by 2;
+  -- "Demands 1 and 2 read for the pair": a refusal says its number, exactly when its ground is the first that holds, and changes nothing;
   pub refusals : BoardDemand1
-  pub refusals_in_c : BoardDemand1OfCalls
   -- each public function of board admits one outcome only, and so does each call for C, which is lent the board in one place.
   pub one_outcome : OneOutcomeOfBoard
   pub one_outcome_in_c : OneOutcomeOfBoardCalls
@@ -25,9 +21,5 @@ pub record BoardDemands : Type 2 where
   pub reports : BoardReports
   -- and no smaller number would do.
   pub tight : BoardTight
-  -- A round is its calls, grant and run in turn; of the reasons of a run it says, where counts fit 16 bits, "cascade" and "short" alone.
-  pub round_is_calls : BoardRoundIsCalls
-  pub round_stops : BoardRoundStops
-  -- A controller alone on the board does what it does without the board, and so does any list of its operations.
+  -- A controller alone on the board does what it does without the board.
   pub alone : Alone
-  pub alone_throughout : AloneThroughout

@@ -7,6 +7,8 @@ pub mod Grants
 pub mod Fairness
 pub mod Rounds
 pub mod Alone
+pub mod Throughout
 pub mod Cases
 pub mod Outcomes
 pub mod Board
+pub mod Further
