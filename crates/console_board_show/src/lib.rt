@@ -1,4 +1,6 @@
 // The board as one table for people, in the rows of a controller's. Nothing is promised of the text but that it is put safely.
+#![tactic(auto)]
+
 use am9517::{Answer, Controller};
 use board::Board;
 use console_show::names::either;

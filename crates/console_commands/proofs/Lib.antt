@@ -1,4 +1,3 @@
 -- Laws about the definitions of specs/.
 pub mod HoldingLaws
 pub mod ServedLaws
-pub mod LineLaws

@@ -1,5 +1,7 @@
 // Why a line was answered by `error` or by `refused N`, in words for people. Nothing is promised of these texts but that they
 // are put safely.
+#![tactic(auto)]
+
 mod boards;
 mod faults;
 mod forms;
