@@ -1,10 +1,12 @@
 -- What functions of the console ask for, and give their callers: that what is held lies in the arrays, as inequalities.
-use Rattle.std.specs.Prelude.{ℕ, ◌≤◌}
+use Rattle.std.specs.Prelude.{ℕ, ◌≤◌, ◌≡◌, List}
 use Rattle.am9517.specs.declared.Controller.{Controller}
 use Rattle.board.specs.declared.Board.{Board}
+use Rattle.console_text.specs.Text.{Page, put}
 use Rattle.console_arrays.specs.declared.arrays.Part.{Part}
 use Rattle.console_commands.specs.declared.Console.{Console}
 use Rattle.console_commands.specs.declared.holding.Executed.{Executed}
+use Rattle.console_commands.specs.Holding.{Said, Left, leaving}
 use Rattle.console_commands.specs.Doings.{further}
 
 pub record Standing (c : Console) (memory queue room : ℕ) : Type 0 where
@@ -16,6 +18,16 @@ pub record Standing (c : Console) (memory queue room : ℕ) : Type 0 where
   pub placed : c.written ≤ c.size
   pub roomed : c.size ≤ room
   pub wide : 70000 ≤ room
+
+-- what is left of a command, for some text of `show` and `help`
+pub record ForSome (seen : Left) (gives : List ℕ → Said) (p : Page) : Type 0 where
+  pub shown : List ℕ
+  pub so : seen ≡ leaving p (gives shown)
+
+-- a text was put on a page: which one is not said
+pub record Tells (p q : Page) : Type 0 where
+  pub text : List ℕ
+  pub so : q ≡ put p text
 
 -- the queue's part of its array, and the room's of its own
 abbrev pub queue_part : Executed → Part

@@ -120,7 +120,7 @@ fn lent(console: Console, one: &[u8], out: &mut [u8], at: usize) -> Executed
     }
 }
 
-pub fn on_arrays(
+pub(crate) fn on_arrays(
     console: Console,
     command: ArrayCommand,
     one: &[u8],

@@ -9,7 +9,7 @@ use crate::holding::Executed;
 use console_board::commands::board_said;
 use console_text::forms::BoardCommand;
 
-pub fn on_board(
+pub(crate) fn on_board(
     console: Console,
     command: BoardCommand,
     one: &[u8],

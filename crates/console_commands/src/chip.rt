@@ -71,7 +71,7 @@ fn chip_said(
     }
 }
 
-pub fn on_chip(
+pub(crate) fn on_chip(
     console: Console,
     command: ChipCommand,
     one: &[u8],

@@ -1,18 +1,19 @@
-// What each family of commands does with what the console holds. Which family a line is of: console_lines.
-#![tactic(auto)]
-
+// The commands of a line, on all that the console holds.
 ghost use Rattle.std.specs.Prelude.{◌≡◌};
 ghost use Rattle.console_commands.specs.Holding.{fresh_console};
 
 use am9517::{Controller, Edition};
 use board::Board;
 
-pub mod arrays;
-pub mod board_commands;
-pub mod chip;
-pub mod holding;
-pub mod services;
+mod arrays;
+mod board_commands;
+mod chip;
+mod command;
+mod holding;
+mod people;
+mod services;
 
+pub use command::execute;
 pub use holding::Executed;
 
 // What the console holds beside its arrays: the controller; the board; how many bytes of memory are lent; where the queue begins and

@@ -60,7 +60,7 @@ fn serve(
 }
 
 // What is lent are the memory's front, the queue, and the room behind its write position.
-pub fn on_services(
+pub(crate) fn on_services(
     console: Console,
     command: ServiceCommand,
     one: &[u8],
@@ -95,7 +95,7 @@ pub fn on_services(
 }
 
 // The same parts are lent to the board.
-pub fn on_board_services(
+pub(crate) fn on_board_services(
     console: Console,
     command: BoardServiceCommand,
     one: &[u8],

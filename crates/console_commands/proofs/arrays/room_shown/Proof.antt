@@ -1,0 +1,19 @@
+use Prim.Native.Nat.{ℕ, ◌-◌}
+use mathlib.Core.Path.{◌≡◌, refl, ap, ◌∙◌}
+use native.Mathlib.Omega.{arith}
+use lib.ListN.{take}
+use Rattle.console_text.specs.Text.{page, put}
+use Rattle.console_arrays.specs.Arrays.{peek_text}
+use borrow.Author.Rules.{rules}
+use Rattle.console_commands.proofs.arrays.room_shown.Statement.{statement}
+use Rattle.console_commands.proofs.arrays.room_shown.Tie as tie
+
+returns : tie.Need-returns
+returns c =
+    let s = c.before.before.before.before.before.before.before.before.before.args in
+    let size = s.console.size in
+    let all : size - 0 ≡ size = omega arith in
+    (refl, c.before.before.peek.ensures ∙ ap (λ (k : ℕ). put (page s.out.now s.at) (peek_text (take k s.room.now) s.one.now s.two.now)) all)
+
+pub room_shown_spec : {M : Type 1} → statement M
+room_shown_spec = tie.close (tie.spec (search rules) (search rules) (search rules) (search rules) (search rules) returns)

@@ -1,5 +1,0 @@
-use mathlib.Core.Path.{refl}
-use Rattle.console_commands.proofs.services.after_service.Goals as goal
-
-pub returns : goal.returns
-returns c = simp (c.further.ensures, c.further-2.ensures) refl
