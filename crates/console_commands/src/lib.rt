@@ -1,4 +1,6 @@
 // The commands of a line, on all that the console holds.
+#![tactic(auto)]
+
 ghost use Rattle.std.specs.Prelude.{◌≡◌};
 ghost use Rattle.console_commands.specs.Holding.{fresh_console};
 

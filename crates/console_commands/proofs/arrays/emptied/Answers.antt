@@ -4,11 +4,7 @@ use mathlib.Core.Path.{refl, ap}
 use native.Mathlib.Omega.{arith}
 use Prim.Native.Nat.{ℕ}
 use borrow.Author.Rules.{rules}
-use Rattle.console_commands.proofs.arrays.emptied.Statement.{statement}
-use Rattle.console_commands.proofs.arrays.emptied.Tie as tie
+use Rattle.console_commands.proofs.arrays.emptied.Goals as goal
 
-returns : tie.Need-returns
+pub returns : goal.returns
 returns c = (refl, λ (queue : List ℕ). record { holds = ap (shown []) c.before.before.ok.ensures; ordered = omega arith; inside = omega arith })
-
-pub emptied_spec : {M : Type 1} → statement M
-emptied_spec = tie.close (tie.spec (search rules) (search rules) returns)

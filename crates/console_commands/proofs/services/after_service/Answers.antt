@@ -1,0 +1,6 @@
+use mathlib.Core.Path.{refl}
+use borrow.Author.Rules.{rules}
+use Rattle.console_commands.proofs.services.after_service.Goals as goal
+
+pub returns : goal.returns
+returns c = simp (c.before.further.ensures, c.further-2.ensures) refl
