@@ -1,4 +1,6 @@
 // A script comes in parts of any size: its lines are cut out of them and executed.
+#![tactic(auto)]
+
 ghost use Rattle.std.specs.Prelude.{◌≡◌, drop};
 ghost use Rattle.console_text.specs.Text.{page};
 ghost use Rattle.console_commands.specs.Holding.{arrays, Done};
