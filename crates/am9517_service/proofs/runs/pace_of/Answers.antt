@@ -5,7 +5,6 @@ use Rattle.am9517.specs.Modes.{compressed}
 use native.Mathlib.Omega.{arith}
 use mathlib.Core.Path.{refl}
 use Prim.Native.Nat.{ℕ, ◌≤◌}
-use borrow.Author.Rules.{rules}
 use Rattle.am9517_service.proofs.runs.pace_of.Goals as goal
 
 -- without wait states

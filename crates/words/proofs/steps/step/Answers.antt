@@ -1,5 +1,4 @@
 use native.Mathlib.Omega.{arith}
-use borrow.Author.Rules.{rules}
 use Rattle.words.specs.Steps.{step, stride}
 use Rattle.words.proofs.StepLaws.{stride_fits}
 use Rattle.words.proofs.steps.step.Goals as goal
