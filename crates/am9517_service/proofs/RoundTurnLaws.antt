@@ -5,7 +5,7 @@ use mathlib.Core.Bool.{Bool, true, false, not, ◌&&◌, ◌||◌}
 use mathlib.Core.List.{List}
 use native.Mathlib.Omega.{arith}
 use lib.Dec.{eqb, leb}
-use lib.ListN.{length, get_or, set, drop, length-drop}
+use lib.ListN.{length, get_or, drop, length-drop}
 use borrow.Author.Tests.{eqb-true, ne_eqb, le-leb}
 use Rattle.words.specs.Choice.{when}
 use Rattle.words.specs.Bits.{bit}

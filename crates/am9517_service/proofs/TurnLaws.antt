@@ -30,7 +30,7 @@ use Rattle.am9517_service.specs.declared.rounds.Turn.{Turn}
 use Rattle.am9517_service.specs.declared.turns.Rota.{Rota}
 use Rattle.am9517_service.specs.declared.turns.Served.{Served}
 use Rattle.am9517_service.specs.Counts.{counts, plus}
-use Rattle.am9517_service.specs.World.{World, world, memory_to_memory, Stop, stop}
+use Rattle.am9517_service.specs.World.{World, memory_to_memory, Stop, stop}
 use Rattle.am9517_service.specs.Transfer.{stepped}
 use Rattle.am9517_service.specs.Ends.{bits_of, with_bits}
 use Rattle.am9517_service.specs.States.{pace, copy_pace}

@@ -41,7 +41,7 @@ use Rattle.board.specs.Answers.{board_outcome, pinned, board_cleared, board_pins
 use Rattle.board.specs.Runs.{server, BoardGiven, board_given, refused_on, served_by, board_ran_of}
 use Rattle.board.specs.Round.{BoardCourse, board_course, board_beginning, service_next, with_service, after_service, BoardClose, board_close, board_round_of}
 use Rattle.board.specs.RoundAnswers.{BoardRoundGiven, board_closed, board_rounded_of}
-use Rattle.board_demands.specs.Alone.{Aside, register_of, levels_of, outcome_on, grant_on, services_on, RoundOn, Alone}
+use Rattle.board_demands.specs.Alone.{Aside, register_of, levels_of, outcome_on, grant_on, services_on, Alone}
 use Rattle.board_demands.specs.Throughout.{reset_on, begun, RoundOnBus, AloneAndArbiter, next_on, behind, AloneThroughout}
 use Rattle.words.proofs.ChoiceLaws.{when_both, when_hit, when_miss, both}
 use Rattle.board.proofs.ChipLaws.{chip_back}

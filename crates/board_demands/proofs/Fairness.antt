@@ -10,7 +10,7 @@ use Rattle.words.specs.Choice.{when}
 use Rattle.words.specs.Grounds.{◌if◌, first}
 use Rattle.am9517.specs.Ranges.{valid, fields_valid}
 use Rattle.am9517.specs.Refusals.{refusal}
-use Rattle.am9517.specs.Serving.{entitled, picked, granted}
+use Rattle.am9517.specs.Serving.{picked, granted}
 use Rattle.am9517.specs.declared.Controller.{Controller}
 use Rattle.am9517.specs.declared.Answer.{Answer}
 use Rattle.am9517.specs.declared.Answer.TheVariants.{Done, Value, Refused}

@@ -19,7 +19,6 @@ use Rattle.am9517_service.specs.declared.Reason.TheVariants.{Ended, Dropped, Lim
 use Rattle.am9517_service.specs.declared.RunAnswer.TheVariants as run-answer
 use Rattle.am9517_service.specs.declared.RoundAnswer.{RoundAnswer}
 use Rattle.am9517_service.specs.declared.RoundAnswer.TheVariants.{Done, Quiet, Stopped}
-use Rattle.am9517_service.specs.Counts.{none}
 use Rattle.am9517_service.specs.World.{Stop}
 use Rattle.am9517_service.specs.Answers.{Given, given, run_refusal_number, wrong_size, stopped, ran_of}
 use Rattle.am9517_service.specs.Round.{Course, course, nobody, run_next, with_run, after_next, is_ended}

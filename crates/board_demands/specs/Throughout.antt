@@ -1,23 +1,16 @@
 -- A controller alone on the board, further: the arbiter, resets, and lists of operations.
-use Rattle.std.specs.Prelude.{ℕ, ◌+◌, ◌*◌, ◌≤◌, ◌≡◌, true, false, List, [], ◌∷◌, ◌++◌, ltb, eqb}
+use Rattle.std.specs.Prelude.{ℕ, ◌+◌, ◌≡◌, List, [], ◌∷◌, eqb}
 use Rattle.words.specs.Choice.{when}
-use Rattle.am9517.specs.Ranges.{valid}
-use Rattle.am9517.specs.Refusals.{busy}
-use Rattle.am9517.specs.Answers.{write_of, read_of, pins_of, reset_of, waits_of, grant_of}
+use Rattle.am9517.specs.Answers.{reset_of}
 use Rattle.am9517.specs.declared.Answer.{Answer}
 use Rattle.am9517.specs.declared.Answer.TheVariants.{Done, Value, Refused}
-use Rattle.am9517.specs.declared.Outcome.{Outcome}
-use Rattle.am9517_service.specs.Answers.{ran_of}
-use Rattle.am9517_service.specs.Round.{nobody}
 use Rattle.am9517_service.specs.RoundAnswers.{RoundGiven, rounded_of}
 use Rattle.board.specs.declared.Board.{Board}
 use Rattle.board.specs.declared.Chip.{Chip}
-use Rattle.board.specs.declared.Chip.TheVariants.{First, Second}
+use Rattle.board.specs.declared.Chip.TheVariants.{Second}
 use Rattle.board.specs.declared.BoardOutcome.{BoardOutcome}
-use Rattle.board.specs.Chips.{number_of, other, chip, with_chip, channel_of}
-use Rattle.board.specs.Bus.{turned_to}
-use Rattle.board.specs.Answers.{board_write_of, board_read_of, board_pins_of, board_reset_of, board_waits_of, board_grant_of}
-use Rattle.board.specs.Runs.{served_by, board_ran_of}
+use Rattle.board.specs.Chips.{number_of, chip}
+use Rattle.board.specs.Answers.{board_reset_of}
 use Rattle.board.specs.RoundAnswers.{BoardRoundGiven, board_rounded_of}
 use Rattle.demands.specs.Operations as without
 use Rattle.board_demands.specs.Operations.{Write, Read, Pins, Reset, Waits, Grant, Run, Round, SheetWriting, SheetReading, next}

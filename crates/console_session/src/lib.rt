@@ -7,7 +7,8 @@ ghost use Rattle.console_commands.specs.Holding.{arrays, Done};
 ghost use Rattle.console_session.specs.Script.{answer_of, gathered, gather_from};
 
 use console_chip::answers::error;
-use console_commands::{Console, Executed, execute};
+use console_commands::{Console, Executed};
+use console_lines::execute;
 use console_text::line::{end_of, said};
 use console_text::page::byte;
 
@@ -23,6 +24,7 @@ pub struct Reached {
 }
 
 // Characters go to the line's array up to a newline or the part's end; those that find no room are left out.
+#[tactic(auto, using(crate::proofs::GatherLaws::gather_newline))]
 pub fn gather(line: &mut [u8], length: usize, part: &[u8], from: usize) -> Reached
     ensures { gathered result line.new ≡ gather_from (page line.old length) (drop from part.now) from }
 {

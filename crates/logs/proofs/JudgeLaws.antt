@@ -13,7 +13,6 @@ use borrow.Author.Tests.{eq-eqb, eqb-true, le-leb}
 use Rattle.words.specs.Choice.{when, ◌and◌}
 use Rattle.words.specs.Bits.{bit}
 use Rattle.am9517.specs.Refusals.{busy}
-use Rattle.am9517.specs.Ranges.{valid}
 use Rattle.am9517.specs.declared.Controller.{Controller}
 use Rattle.am9517_service.specs.declared.Reason.TheVariants.{Limit}
 use Rattle.am9517_service.specs.World.{Stop, stop, start_of, memory_to_memory}

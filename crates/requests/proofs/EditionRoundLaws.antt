@@ -10,7 +10,6 @@ use Rattle.words.specs.Grounds.{◌if◌, first}
 use Rattle.am9517.specs.Fields.{put, Edition}
 use Rattle.am9517.specs.Serving.{active, request_counts, entitled, set_of, picked, granted}
 use Rattle.am9517.specs.declared.Controller.{Controller}
-use Rattle.am9517.specs.declared.Answer.TheVariants.{Done}
 use Rattle.am9517_service.specs.World.{start_of, with_controller, Stop, stop}
 use Rattle.am9517_service.specs.Ends.{counting}
 use Rattle.am9517_service.specs.Run.{run_of}

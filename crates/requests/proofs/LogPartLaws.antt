@@ -14,7 +14,7 @@ use Rattle.words.specs.Grounds.{first}
 use Rattle.am9517.specs.Refusals.{refusal, busy}
 use Rattle.am9517.specs.declared.Controller.{Controller}
 use Rattle.am9517_service.specs.Answers.{run_grounds}
-use Rattle.am9517.proofs.RangeLaws.{ranges, of_ranges}
+use Rattle.am9517.proofs.RangeLaws.{of_ranges}
 use Rattle.logs.specs.declared.Verdict.{Verdict}
 use Rattle.logs.specs.declared.Verdict.TheVariants.{Wrong}
 use Rattle.logs.specs.Judge.{transfers, Found, found, behind, judged}

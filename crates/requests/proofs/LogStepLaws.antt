@@ -11,7 +11,6 @@ use Rattle.words.specs.Bytes.{word_of, low_byte, high_byte}
 use Rattle.words.specs.Bits.{bit}
 use Rattle.am9517.specs.State.{ended}
 use Rattle.am9517.specs.Refusals.{busy}
-use Rattle.am9517.specs.Fields.{channel}
 use Rattle.am9517.specs.declared.Controller.{Controller}
 use Rattle.am9517_service.specs.World.{World, memory_to_memory, serving_channel, start_of}
 use Rattle.am9517_service.specs.Transfer.{writes, reads, moved}
@@ -22,7 +21,7 @@ use Rattle.words.proofs.ChoiceLaws.{when_both, when_over, both_hold}
 use Rattle.am9517_service.proofs.RunLaws.{transferred_moved, transferred_copied}
 use Rattle.logs.specs.declared.Record.{Record}
 use Rattle.logs.specs.Record.{record_in, bytes_of, moved_byte, is_last, flags_of, record_of}
-use Rattle.logs.specs.Judge.{next_run, transfers, tells_eop, same, is_right}
+use Rattle.logs.specs.Judge.{next_run, tells_eop, same, is_right}
 use Rattle.logs.specs.ClosedRegisters.{flows}
 use Rattle.logs.proofs.NextLaws.{after, next_controller, next_memory, transfers_is}
 use Rattle.logs.proofs.JudgeLaws.{same_self}

@@ -1,7 +1,5 @@
-use native.Mathlib.Omega.{arith}
 use mathlib.Core.Path.{◌≡◌}
 use lib.ListN.{length}
-use borrow.Author.Rules.{rules}
 use Rattle.bench_meter.proofs.meter_judge.Given as goal
 
 abbrev pub invariant-loop-left : goal.invariant-loop-left

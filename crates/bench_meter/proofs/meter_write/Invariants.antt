@@ -1,4 +1,3 @@
-use borrow.Author.Rules.{rules}
 use Rattle.bench_meter.proofs.meter_write.Given as goal
 
 abbrev pub invariant-loop-left : goal.invariant-loop-left

@@ -1,6 +1,5 @@
 use mathlib.Core.Path.{ap}
 use Rattle.c_told.specs.Numbers.{save_of}
-use borrow.Author.Rules.{rules}
 use Rattle.c_am9517.proofs.am9517_back.Goals as goal
 
 pub returns : goal.returns

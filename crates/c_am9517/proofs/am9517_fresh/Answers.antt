@@ -1,4 +1,3 @@
-use borrow.Author.Rules.{rules}
 use Rattle.c_am9517.proofs.am9517_fresh.Goals as goal
 
 pub returns : goal.returns

@@ -1,10 +1,8 @@
-use Rattle.console_session.proofs.GatherLaws.{gather_end, gather_newline, gather_turn}
 use lib.ListN.{length, drop}
 use mathlib.Core.Path.{◌≡◌}
 use Prim.Native.Nat.{◌-◌}
 use Rattle.console_text.specs.Text.{page}
 use Rattle.console_session.specs.Script.{gather_from}
-use borrow.Author.Rules.{rules}
 use Rattle.console_session.proofs.gather.Given as goal
 
 abbrev pub invariant-loop-i : goal.invariant-loop-i

@@ -1,4 +1,3 @@
-use borrow.Author.Rules.{rules}
 use Rattle.am9517.specs.Serving.{active}
 use Rattle.am9517.proofs.Controller.active.Goals as goal
 

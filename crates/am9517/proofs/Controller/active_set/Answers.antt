@@ -1,6 +1,5 @@
 use native.Mathlib.Omega.{arith}
 use Rattle.am9517.proofs.ServingLaws.{active_set_lem}
-use borrow.Author.Rules.{rules}
 use Rattle.am9517.proofs.Controller.active_set.Goals as goal
 
 pub returns : goal.returns

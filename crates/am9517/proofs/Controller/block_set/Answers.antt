@@ -1,5 +1,4 @@
 use Rattle.am9517.specs.Serving.{set_of}
-use borrow.Author.Rules.{rules}
 use Rattle.am9517.proofs.Controller.block_set.Goals as goal
 
 pub returns : goal.returns

@@ -1,7 +1,6 @@
 use mathlib.Core.Path.{sym}
 use native.Mathlib.Omega.{arith}
 use Rattle.am9517.proofs.ServingLaws.{entitled_set_is}
-use borrow.Author.Rules.{rules}
 use Rattle.am9517.proofs.Controller.entitled_set.Goals as goal
 
 pub returns : goal.returns

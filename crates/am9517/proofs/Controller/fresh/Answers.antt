@@ -1,4 +1,3 @@
-use borrow.Author.Rules.{rules}
 use Rattle.am9517.proofs.Controller.fresh.Goals as goal
 
 pub returns : goal.returns

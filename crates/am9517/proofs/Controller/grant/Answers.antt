@@ -1,9 +1,7 @@
 use Rattle.am9517.specs.declared.Answer.TheVariants.{Value}
 use Rattle.am9517.proofs.RefusalLaws.{stated}
 use mathlib.Core.Path.{refl, sym}
-use mathlib.Core.Logic.{⊎_elim}
 use borrow.Author.Tests.{eq-eqb, ne_eqb}
-use borrow.Author.Rules.{rules}
 use Rattle.words.specs.Choice.{when}
 use Rattle.am9517.specs.Answers.{outcome}
 use Rattle.am9517.proofs.Controller.grant.Goals as goal

@@ -1,4 +1,3 @@
-use borrow.Author.Rules.{rules}
 use Rattle.words.specs.Grounds.{first}
 use Rattle.am9517.specs.Refusals.{refusal}
 use Rattle.am9517.proofs.Controller.grant_refusal.Goals as goal

@@ -1,4 +1,3 @@
-use borrow.Author.Rules.{rules}
 use Rattle.am9517.specs.Serving.{granted}
 use Rattle.am9517.proofs.Controller.granted.Goals as goal
 

@@ -1,5 +1,4 @@
 use Rattle.am9517.proofs.ServingLaws.{lines_are}
-use borrow.Author.Rules.{rules}
 use Rattle.am9517.proofs.Controller.lines.Goals as goal
 
 pub returns : goal.returns

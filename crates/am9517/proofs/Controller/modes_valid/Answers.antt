@@ -1,4 +1,3 @@
-use borrow.Author.Rules.{rules}
 use Rattle.am9517.proofs.ModeLaws.{modes_apart}
 use Rattle.am9517.proofs.Controller.modes_valid.Goals as goal
 

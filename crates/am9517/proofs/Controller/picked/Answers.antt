@@ -1,5 +1,4 @@
 use Rattle.am9517.specs.Serving.{picked}
-use borrow.Author.Rules.{rules}
 use Rattle.am9517.proofs.Controller.picked.Goals as goal
 
 pub returns : goal.returns

@@ -1,8 +1,6 @@
 use Rattle.am9517.specs.declared.Answer.TheVariants.{Done}
 use mathlib.Core.Path.{refl, sym, ◌∙◌}
-use mathlib.Core.Logic.{⊎_elim}
 use borrow.Author.Tests.{eq-eqb, ne_eqb}
-use borrow.Author.Rules.{rules}
 use Rattle.words.specs.Choice.{when}
 use Rattle.am9517.specs.Answers.{outcome}
 use Rattle.am9517.proofs.RefusalLaws.{stated, pins_fit}

@@ -1,11 +1,9 @@
 use Rattle.am9517.specs.declared.Answer.TheVariants.{Value, Refused}
 use Prim.Native.Nat.{ℕ, ◌/◌, ◌%◌, ◌≤◌}
 use mathlib.Core.Path.{◌≡◌, refl, sym, ap, ◌∙◌}
-use mathlib.Core.Logic.{⊎_elim}
 use native.Mathlib.Nat.{mod-eq_of_lt}
 use native.Mathlib.Omega.{arith}
 use borrow.Author.Tests.{eq-eqb, ne_eqb}
-use borrow.Author.Rules.{rules}
 use Rattle.words.specs.Grounds.{first}
 use Rattle.words.specs.Choice.{when}
 use Rattle.am9517.specs.Registers.{port_read, value, after_read}
@@ -16,7 +14,7 @@ use Rattle.am9517.specs.declared.Answer.{Answer}
 use Rattle.am9517.specs.Refusals.{refusal, read_grounds}
 use lib.Dec.{eqb}
 use Rattle.am9517.proofs.RefusalLaws.{stated, read_valid}
-use Rattle.am9517.proofs.RegisterLaws.{read_register, less, port_value, port_left}
+use Rattle.am9517.proofs.RegisterLaws.{read_register, port_value, port_left}
 use Rattle.am9517.proofs.RangeLaws.{fields}
 use Rattle.am9517.proofs.Controller.read.Goals as goal
 use Rattle.am9517.proofs.Controller.read.Goals.{then-no-eq0+in-8, then-no-eq0+in-13, then-no-eq0+in_default, else-no-eq0}
@@ -59,12 +57,12 @@ returns c =
     let s = c.args.self in let reg = c.args.reg in
     stated _ _ _ _ (Value _) refl (
     elim c.if-no-eq0.branch [
-      then-no-eq0+in-8 w ↦ given s reg _ _ _ _ c.answered-answer.ensures c.read_refusal-no.ensures _ _ w.if-no-eq0.true w.next-is w.value-is (at s reg 8 _ w.in-8.is refl) (at_value s reg 8 _ w.in-8.is (sym w.status-value.ensures))
-    | then-no-eq0+in-13 w ↦ given s reg _ _ _ _ c.answered-answer.ensures c.read_refusal-no.ensures _ _ w.if-no-eq0.true w.next-is w.value-is (at s reg 0xD _ w.in-13.is refl) (at_value s reg 0xD _ w.in-13.is refl)
-    | then-no-eq0+in_default w ↦
-      let r = read_register s reg (sym c.read_refusal-no.ensures ∙ w.if-no-eq0.true) in
-      let small : reg ≤ 7 = omega (arith, r) in
-      let port : reg / 2 % 4 ≡ reg / 2 = mod-eq_of_lt (omega arith) in
-      given s reg _ _ _ _ c.answered-answer.ensures c.read_refusal-no.ensures _ _ w.if-no-eq0.true w.next-is w.value-is (port_left s reg small ∙ simp w.when.ensures) (port_value s reg small ∙ simp (port, w.byte_of-value.ensures, w.when_word.ensures))
-    | else-no-eq0 w ↦ kept s reg _ _ _ _ c.answered-answer.ensures c.read_refusal-no.ensures w.if-no-eq0.false w.next-is
+      | then-no-eq0+in-8 w ↦ given s reg _ _ _ _ c.answered-answer.ensures c.read_refusal-no.ensures _ _ w.if-no-eq0.true w.next-is w.value-is (at s reg 8 _ w.in-8.is refl) (at_value s reg 8 _ w.in-8.is (sym w.status-value.ensures))
+      | then-no-eq0+in-13 w ↦ given s reg _ _ _ _ c.answered-answer.ensures c.read_refusal-no.ensures _ _ w.if-no-eq0.true w.next-is w.value-is (at s reg 0xD _ w.in-13.is refl) (at_value s reg 0xD _ w.in-13.is refl)
+      | then-no-eq0+in_default w ↦
+          let r = read_register s reg (sym c.read_refusal-no.ensures ∙ w.if-no-eq0.true) in
+          let small : reg ≤ 7 = omega (arith, r) in
+          let port : reg / 2 % 4 ≡ reg / 2 = mod-eq_of_lt (omega arith) in
+          given s reg _ _ _ _ c.answered-answer.ensures c.read_refusal-no.ensures _ _ w.if-no-eq0.true w.next-is w.value-is (port_left s reg small ∙ simp w.when.ensures) (port_value s reg small ∙ simp (port, w.byte_of-value.ensures, w.when_word.ensures))
+      | else-no-eq0 w ↦ kept s reg _ _ _ _ c.answered-answer.ensures c.read_refusal-no.ensures w.if-no-eq0.false w.next-is
     ])

@@ -1,7 +1,6 @@
 use native.Mathlib.Omega.{arith}
 use Rattle.am9517.specs.Serving.{active, requests, status}
 use Rattle.am9517.proofs.ServingLaws.{set_most, requests_set, no_requests}
-use borrow.Author.Rules.{rules}
 use Rattle.am9517.proofs.Controller.status.Goals as goal
 
 pub overflow_mul-result : goal.overflow_mul-result

@@ -1,7 +1,5 @@
 use mathlib.Core.Path.{sym, ◌∙◌}
 use native.Mathlib.Omega.{arith}
-use borrow.Author.Tests.{not-true, not-false}
-use borrow.Author.Rules.{rules}
 use Rattle.words.specs.Choice.{◌and◌}
 use Rattle.am9517.specs.Ranges.{valid}
 use Rattle.am9517.specs.ClosedMasks.{flags, others}

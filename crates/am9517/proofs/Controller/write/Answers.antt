@@ -2,11 +2,9 @@ use Rattle.am9517.specs.declared.Answer.TheVariants.{Done, Refused}
 use Rattle.am9517.proofs.RefusalLaws.{stated}
 use Prim.Native.Nat.{ℕ, ◌/◌, ◌%◌, ◌≤◌}
 use mathlib.Core.Path.{◌≡◌, refl, sym, ap, ◌∙◌}
-use mathlib.Core.Logic.{⊎_elim}
 use native.Mathlib.Nat.{mod-eq_of_lt}
 use native.Mathlib.Omega.{arith}
 use borrow.Author.Tests.{eq-eqb, ne_eqb}
-use borrow.Author.Rules.{rules}
 use Rattle.words.specs.Grounds.{first}
 use Rattle.words.specs.Choice.{when}
 use Rattle.am9517.specs.Registers.{after_write, port_written, mode_written}
@@ -16,7 +14,7 @@ use Rattle.am9517.specs.declared.Controller.{Controller}
 use Rattle.am9517.specs.declared.Outcome.{Outcome}
 use Rattle.am9517.specs.declared.Answer.{Answer}
 use lib.Dec.{eqb}
-use Rattle.am9517.proofs.RegisterLaws.{write_register, less, port_after}
+use Rattle.am9517.proofs.RegisterLaws.{write_register, port_after}
 use Rattle.am9517.proofs.Controller.write.Goals as goal
 use Rattle.am9517.proofs.Controller.write.Goals.{then-reg-eq0, else-reg-eq0, then-no-eq0+in-9, then-no-eq0+in-10, then-no-eq0+in-13, then-no-eq0+in-14, then-no-eq0+in-15, else-no-eq0}
 
@@ -63,18 +61,18 @@ returns-after-reg-eq0 c =
     let port : reg / 2 % 4 ≡ reg / 2 = mod-eq_of_lt (omega arith) in
     stored c.args.self c.args.reg c.args.byte _ _ c.answered-answer.ensures c.write_refusal-no.ensures reg _ _ c.if-no-eq0.true refl refl (port_after s reg byte small ∙
     elim c.if-reg-eq0.branch [
-      then-reg-eq0 w ↦ simp (port, eq-eqb _ _ w.if-reg-eq0.true, c.when.ensures, w.next-is, w.with_address_byte.ensures)
-    | else-reg-eq0 w ↦ simp (port, ne_eqb _ _ w.if-reg-eq0.false, c.when.ensures, w.next-is, w.with_count_byte.ensures)
+      | then-reg-eq0 w ↦ simp (port, eq-eqb _ _ w.if-reg-eq0.true, c.when.ensures, w.next-is, w.with_address_byte.ensures)
+      | else-reg-eq0 w ↦ simp (port, ne_eqb _ _ w.if-reg-eq0.false, c.when.ensures, w.next-is, w.with_count_byte.ensures)
     ])
 
 pub returns : goal.returns
 unfolding after_write first when
 returns c =
     elim c.if-no-eq0.branch [
-      then-no-eq0+in-9 w ↦ stored c.args.self c.args.reg c.args.byte _ _ c.answered-answer.ensures c.write_refusal-no.ensures 9 _ _ w.if-no-eq0.true w.in-9.is w.next-is (simp (w.with_bit.ensures, w.is_set.ensures))
-    | then-no-eq0+in-10 w ↦ stored c.args.self c.args.reg c.args.byte _ _ c.answered-answer.ensures c.write_refusal-no.ensures 0xA _ _ w.if-no-eq0.true w.in-10.is w.next-is (simp (w.with_bit-in-10.ensures, w.is_set-in-10.ensures))
-    | then-no-eq0+in-13 w ↦ stored c.args.self c.args.reg c.args.byte _ _ c.answered-answer.ensures c.write_refusal-no.ensures 0xD _ _ w.if-no-eq0.true w.in-13.is w.next-is (sym w.cleared-next.ensures)
-    | then-no-eq0+in-14 w ↦ stored c.args.self c.args.reg c.args.byte _ _ c.answered-answer.ensures c.write_refusal-no.ensures 0xE _ _ w.if-no-eq0.true w.in-14.is w.next-is refl
-    | then-no-eq0+in-15 w ↦ stored c.args.self c.args.reg c.args.byte _ _ c.answered-answer.ensures c.write_refusal-no.ensures 0xF _ _ w.if-no-eq0.true w.in-15.is w.next-is refl
-    | else-no-eq0 w ↦ kept c.args.self c.args.reg c.args.byte _ _ c.answered-answer.ensures c.write_refusal-no.ensures _ w.if-no-eq0.false w.next-is
+      | then-no-eq0+in-9 w ↦ stored c.args.self c.args.reg c.args.byte _ _ c.answered-answer.ensures c.write_refusal-no.ensures 9 _ _ w.if-no-eq0.true w.in-9.is w.next-is (simp (w.with_bit.ensures, w.is_set.ensures))
+      | then-no-eq0+in-10 w ↦ stored c.args.self c.args.reg c.args.byte _ _ c.answered-answer.ensures c.write_refusal-no.ensures 0xA _ _ w.if-no-eq0.true w.in-10.is w.next-is (simp (w.with_bit-in-10.ensures, w.is_set-in-10.ensures))
+      | then-no-eq0+in-13 w ↦ stored c.args.self c.args.reg c.args.byte _ _ c.answered-answer.ensures c.write_refusal-no.ensures 0xD _ _ w.if-no-eq0.true w.in-13.is w.next-is (sym w.cleared-next.ensures)
+      | then-no-eq0+in-14 w ↦ stored c.args.self c.args.reg c.args.byte _ _ c.answered-answer.ensures c.write_refusal-no.ensures 0xE _ _ w.if-no-eq0.true w.in-14.is w.next-is refl
+      | then-no-eq0+in-15 w ↦ stored c.args.self c.args.reg c.args.byte _ _ c.answered-answer.ensures c.write_refusal-no.ensures 0xF _ _ w.if-no-eq0.true w.in-15.is w.next-is refl
+      | else-no-eq0 w ↦ kept c.args.self c.args.reg c.args.byte _ _ c.answered-answer.ensures c.write_refusal-no.ensures _ w.if-no-eq0.false w.next-is
     ]

@@ -1,9 +1,8 @@
 use mathlib.Core.Path.{sym}
-use borrow.Author.Tests.{lt-ltb, le-ltb, eq-eqb, ne_eqb, not-true, not-false}
+use borrow.Author.Tests.{lt-ltb, le-ltb, eq-eqb, ne_eqb}
 use Rattle.words.specs.Grounds.{first}
 use Rattle.words.specs.Choice.{when}
 use Rattle.am9517.specs.Refusals.{refusal}
-use borrow.Author.Rules.{rules}
 use Rattle.am9517.proofs.Controller.write_refusal.Goals as goal
 
 pub returns-then-not-valid : goal.returns-then-not-valid

@@ -1,6 +1,5 @@
 use native.Mathlib.Omega.{arith}
 use Rattle.am9517.proofs.ModeLaws.{mode_bit}
-use borrow.Author.Rules.{rules}
 use Rattle.am9517.proofs.modes.mode_refused.Goals as goal
 
 pub returns : goal.returns

@@ -1,6 +1,5 @@
 use native.Mathlib.Omega.{arith}
 use Rattle.am9517.specs.ClosedMasks.{joined}
-use borrow.Author.Rules.{rules}
 use Rattle.am9517.proofs.ranges.quad.Goals as goal
 
 pub returns : goal.returns

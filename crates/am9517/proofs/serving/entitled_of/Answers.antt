@@ -1,6 +1,5 @@
 use mathlib.Core.Path.{refl}
 use Rattle.am9517.specs.ClosedSets.{entitled_of}
-use borrow.Author.Rules.{rules}
 use Rattle.am9517.proofs.serving.entitled_of.Goals as goal
 
 pub returns : goal.returns

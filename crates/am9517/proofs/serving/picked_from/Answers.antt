@@ -1,8 +1,6 @@
 use Prim.Native.Nat.{ℕ}
-use mathlib.Core.Path.{◌≡◌, refl}
-use mathlib.Core.Bool.{true}
+use mathlib.Core.Path.{refl}
 use mathlib.Core.List.{List, [], ◌∷◌}
-use borrow.Author.Rules.{rules}
 use Rattle.words.specs.Choice.{when}
 use Rattle.words.specs.Grounds.{first}
 use Rattle.am9517.specs.Serving.{picked_from}
@@ -20,10 +18,6 @@ firsts =
     ∷ (4 ∷ 0 ∷ 1 ∷ 0 ∷ 2 ∷ 0 ∷ 1 ∷ 0 ∷ 3 ∷ 0 ∷ 1 ∷ 0 ∷ 2 ∷ 0 ∷ 1 ∷ 0 ∷ [])
     ∷ []
 
-by-the-rule : ruled picked_from 4 16 firsts ≡ true
-unfolding ruled every picked_from first when firsts
-by-the-rule = refl
-
 pub returns : goal.returns
-unfolding firsts
-returns c = picked_from_entry firsts c.before.args.last c.before.args.set by-the-rule
+unfolding ruled every picked_from first when firsts
+returns c = picked_from_entry firsts c.before.args.last c.before.args.set refl

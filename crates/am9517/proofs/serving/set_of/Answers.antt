@@ -1,5 +1,4 @@
 use native.Mathlib.Omega.{arith}
-use borrow.Author.Rules.{rules}
 use Rattle.words.proofs.ChoiceLaws.{when_le}
 use Rattle.am9517.proofs.serving.set_of.Goals as goal
 

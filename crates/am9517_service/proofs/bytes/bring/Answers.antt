@@ -1,6 +1,5 @@
 use Rattle.am9517_service.proofs.TransferLaws.{one_stored}
 use native.Mathlib.Omega.{arith}
-use borrow.Author.Rules.{rules}
 use Rattle.am9517_service.proofs.bytes.bring.Goals as goal
 
 pub returns-then-n-eq1 : goal.returns-then-n-eq1

@@ -1,6 +1,5 @@
 use Rattle.am9517_service.proofs.TransferLaws.{one_loaded}
 use native.Mathlib.Omega.{arith}
-use borrow.Author.Rules.{rules}
 use Rattle.am9517_service.proofs.bytes.fetch.Goals as goal
 
 pub returns-then-n-eq1 : goal.returns-then-n-eq1

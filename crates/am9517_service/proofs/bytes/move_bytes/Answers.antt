@@ -2,7 +2,6 @@ use Rattle.am9517_service.proofs.SpanLaws.{write_not_read}
 use Rattle.am9517_service.specs.ClosedLegs.{address_after}
 use Rattle.words.proofs.ChoiceLaws.{when_hit, when_miss}
 use mathlib.Core.Path.{sym, ◌∙◌}
-use borrow.Author.Rules.{rules}
 use Rattle.am9517_service.proofs.bytes.move_bytes.Goals as goal
 
 pub bring-requires : goal.bring-requires

@@ -6,7 +6,6 @@ use Rattle.words.specs.Choice.{when}
 use mathlib.Core.Path.{sym, ◌∙◌}
 use native.Mathlib.Nat.{add-zero}
 use native.Mathlib.Omega.{arith}
-use borrow.Author.Rules.{rules}
 use Rattle.am9517_service.proofs.bytes.move_on.Goals as goal
 
 pub fetch-requires : goal.fetch-requires

@@ -1,4 +1,3 @@
-use borrow.Author.Rules.{rules}
 use Rattle.am9517_service.proofs.copies.beginning_again.Goals as goal
 
 pub returns : goal.returns

@@ -1,5 +1,4 @@
-use Rattle.am9517_service.proofs.CopyPieceLaws.{Moving, moving_piece, moving_on, moving_over, moving_end}
-use borrow.Author.Rules.{rules}
+use Rattle.am9517_service.proofs.CopyPieceLaws.{moving_piece, moving_on, moving_over, moving_end}
 use mathlib.Core.Path.{refl}
 use native.Mathlib.Omega.{arith}
 use Rattle.am9517_service.proofs.copies.carry_all.Goals as goal

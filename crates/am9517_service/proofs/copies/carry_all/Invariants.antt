@@ -1,7 +1,4 @@
-use Rattle.am9517_service.proofs.CopyPieceLaws.{Moving, moving_piece, moving_on, moving_over, moving_end}
-use borrow.Author.Rules.{rules}
-use mathlib.Core.Path.{refl}
-use native.Mathlib.Omega.{arith}
+use Rattle.am9517_service.proofs.CopyPieceLaws.{Moving}
 use Rattle.am9517_service.proofs.copies.carry_all.Given as goal
 
 abbrev pub invariant-loop-left : goal.invariant-loop-left

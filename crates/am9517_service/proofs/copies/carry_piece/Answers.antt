@@ -1,6 +1,5 @@
 use native.Mathlib.Omega.{arith}
 use Rattle.am9517_service.proofs.CopyRestoreLaws.{one_along}
-use borrow.Author.Rules.{rules}
 use Rattle.am9517_service.proofs.copies.carry_piece.Goals as goal
 
 pub carry_straight-requires : goal.carry_straight-requires

@@ -3,7 +3,6 @@ use Prim.Native.Nat.{ℕ, ◌<◌}
 use Rattle.words.proofs.ChoiceLaws.{when_both}
 use Rattle.am9517_service.proofs.CopyRestoreLaws.{first_below, restoring_by}
 use native.Mathlib.Omega.{arith}
-use borrow.Author.Rules.{rules}
 use Rattle.am9517_service.proofs.copies.carry_restoring.Goals as goal
 
 pub overflow_sub-n : goal.overflow_sub-n

@@ -1,6 +1,5 @@
 use Rattle.am9517_service.proofs.CopyPieceLaws.{held_bytes, moved_bytes}
 use native.Mathlib.Omega.{arith}
-use borrow.Author.Rules.{rules}
 use Rattle.am9517_service.proofs.copies.carry_straight.Goals as goal
 
 pub fill-requires : goal.fill-requires

@@ -2,7 +2,6 @@ use Rattle.am9517_service.proofs.CopyLegLaws.{last_moved}
 use Rattle.am9517_service.proofs.CopyRestoreLaws.{along_by, one_carried, one_moved}
 use native.Mathlib.Omega.{arith}
 use mathlib.Core.Path.{sym, ◌∙◌}
-use borrow.Author.Rules.{rules}
 use Rattle.am9517_service.proofs.copies.copy_bytes.Goals as goal
 
 pub returns-then-n-eq1 : goal.returns-then-n-eq1

@@ -1,5 +1,4 @@
 use Rattle.am9517_service.specs.ClosedCopies.{copy_leg_of}
-use borrow.Author.Rules.{rules}
 use Rattle.am9517_service.proofs.copies.copy_leg.Goals as goal
 
 pub returns : goal.returns

@@ -1,6 +1,5 @@
-use Rattle.am9517_service.proofs.CopyRestoreLaws.{Laying, laying_start, laying_piece, laying_on, laying_again, laying_end}
+use Rattle.am9517_service.proofs.CopyRestoreLaws.{laying_start, laying_piece, laying_on, laying_again, laying_end}
 use native.Mathlib.Omega.{arith}
-use borrow.Author.Rules.{rules}
 use Rattle.words.proofs.ChoiceLaws.{when_hit}
 use mathlib.Core.Path.{◌∙◌}
 use Rattle.am9517_service.proofs.copies.lay.Goals as goal

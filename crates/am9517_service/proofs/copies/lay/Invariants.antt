@@ -1,8 +1,4 @@
-use Rattle.am9517_service.proofs.CopyRestoreLaws.{Laying, laying_start, laying_piece, laying_on, laying_again, laying_end}
-use native.Mathlib.Omega.{arith}
-use borrow.Author.Rules.{rules}
-use Rattle.words.proofs.ChoiceLaws.{when_hit}
-use mathlib.Core.Path.{◌∙◌}
+use Rattle.am9517_service.proofs.CopyRestoreLaws.{Laying}
 use Rattle.am9517_service.proofs.copies.lay.Given as goal
 
 abbrev pub invariant-loop-left : goal.invariant-loop-left

@@ -1,6 +1,5 @@
 use mathlib.Core.Path.{sym}
 use Rattle.words.proofs.ChoiceLaws.{when_hit, when_miss}
-use borrow.Author.Rules.{rules}
 use Rattle.am9517_service.proofs.copies.piece_of.Goals as goal
 
 pub returns-then-each : goal.returns-then-each

@@ -1,7 +1,6 @@
 use mathlib.Core.Path.{sym, ◌∙◌}
 use Rattle.words.proofs.ChoiceLaws.{when_hit, when_miss}
 use Rattle.am9517_service.specs.ClosedCopies.{restores}
-use borrow.Author.Rules.{rules}
 use Rattle.am9517_service.proofs.copies.restores.Goals as goal
 
 pub returns-then-autoinitialize : goal.returns-then-autoinitialize

@@ -10,7 +10,6 @@ use native.Mathlib.Nat.{mod-lt}
 use borrow.Author.Tests.{leb-true}
 use Rattle.am9517.proofs.RangeLaws.{and_right}
 use Rattle.am9517_service.proofs.CopySourceLaws.{source_past, source_before}
-use borrow.Author.Rules.{rules}
 use Rattle.am9517_service.proofs.copies.source_after.Goals as goal
 
 pub overflow_sub-past : goal.overflow_sub-past

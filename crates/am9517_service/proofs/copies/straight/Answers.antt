@@ -1,7 +1,6 @@
 use Rattle.am9517_service.specs.ClosedCopies.{straight_of}
 use Rattle.words.proofs.ChoiceLaws.{when_hit, when_miss}
 use mathlib.Core.Path.{sym}
-use borrow.Author.Rules.{rules}
 use Rattle.am9517_service.proofs.copies.straight.Goals as goal
 
 pub returns-then-route : goal.returns-then-route

@@ -1,4 +1,3 @@
-use borrow.Author.Rules.{rules}
 use Rattle.am9517_service.proofs.legs.sets_tc_bit.Goals as goal
 
 pub returns : goal.returns

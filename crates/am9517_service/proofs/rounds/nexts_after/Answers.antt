@@ -3,7 +3,6 @@ use mathlib.Core.Bool.{not}
 use mathlib.Core.Path.{◌≡◌}
 use Rattle.am9517_service.proofs.RunWayLaws.{neither_left, neither_right}
 use borrow.Author.Tests.{eqb-true, not-false}
-use borrow.Author.Rules.{rules}
 use Rattle.am9517_service.proofs.rounds.nexts_after.Goals as goal
 
 pub returns-then-mask-was : goal.returns-then-mask-was

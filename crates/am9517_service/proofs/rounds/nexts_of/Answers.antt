@@ -1,6 +1,5 @@
 use Rattle.am9517_service.specs.ClosedRounds.{nexts_of}
 use Rattle.words.specs.Choice.{when}
-use borrow.Author.Rules.{rules}
 use Rattle.am9517_service.proofs.rounds.nexts_of.Goals as goal
 
 pub returns-then-f : goal.returns-then-f

@@ -1,6 +1,5 @@
 use Rattle.words.specs.Grounds.{first}
 use Rattle.am9517.specs.Refusals.{refusal}
-use borrow.Author.Rules.{rules}
 use Rattle.am9517_service.proofs.rounds.round_refusal.Goals as goal
 
 pub returns : goal.returns

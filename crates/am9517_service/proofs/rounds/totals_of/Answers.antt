@@ -3,7 +3,6 @@ use Rattle.am9517_service.specs.Bounds.{most_pace}
 use native.Mathlib.Omega.{arith}
 use native.Mathlib.Nat.{mul-le-mul_left}
 use Prim.Native.Nat.{◌+◌, ◌*◌, ◌≤◌}
-use borrow.Author.Rules.{rules}
 use Rattle.am9517_service.proofs.rounds.totals_of.Goals as goal
 
 pub overflow_mul-result : goal.overflow_mul-result

@@ -8,7 +8,6 @@ use Rattle.words.proofs.PartLaws.{tail_all, put_tail}
 use Rattle.words.proofs.ChoiceLaws.{when_hit, when_miss}
 use Rattle.words.specs.Choice.{when}
 use native.Mathlib.Nat.{add-zero}
-use borrow.Author.Rules.{rules}
 use Rattle.am9517_service.proofs.rounds.transfer_alone.Goals as goal
 
 pub returns-then-written-room : goal.returns-then-written-room

@@ -3,7 +3,6 @@ use Rattle.am9517_service.specs.ClosedLegs.{leg_of}
 use Rattle.am9517_service.proofs.TransferLaws.{states_most}
 use native.Mathlib.Omega.{arith}
 use Prim.Native.Nat.{◌≤◌}
-use borrow.Author.Rules.{rules}
 use Rattle.am9517_service.proofs.rounds.turn_of.Goals as goal
 
 pub overflow_add-result : goal.overflow_add-result

@@ -1,4 +1,3 @@
-use borrow.Author.Rules.{rules}
 use Rattle.am9517_service.proofs.runs.after_copy.Goals as goal
 
 pub returns : goal.returns

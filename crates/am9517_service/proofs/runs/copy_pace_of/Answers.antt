@@ -1,7 +1,6 @@
 use Rattle.am9517_service.specs.States.{copy_pace}
 use native.Mathlib.Omega.{arith}
 use mathlib.Core.Path.{refl}
-use borrow.Author.Rules.{rules}
 use Rattle.am9517_service.proofs.runs.copy_pace_of.Goals as goal
 
 pub returns : goal.returns

@@ -3,7 +3,6 @@ use Rattle.words.specs.Choice.{when}
 use mathlib.Core.Bool.{Bool}
 use mathlib.Core.Path.{◌≡◌, ap, ◌∙◌}
 use native.Mathlib.Omega.{arith}
-use borrow.Author.Rules.{rules}
 use Rattle.am9517_service.proofs.runs.counted.Goals as goal
 
 pub overflow_add-result-2 : goal.overflow_add-result-2

@@ -1,5 +1,4 @@
 use Rattle.am9517_service.specs.States.{needs_s1}
-use borrow.Author.Rules.{rules}
 use Rattle.am9517_service.proofs.runs.open_leg.Goals as goal
 
 pub returns : goal.returns

@@ -4,8 +4,9 @@ use Rattle.words.proofs.ChoiceLaws.{when_both}
 use Rattle.am9517.specs.Modes.{compressed}
 use native.Mathlib.Omega.{arith}
 use mathlib.Core.Path.{refl}
-use Prim.Native.Nat.{ℕ, ◌≤◌}
-use borrow.Author.Rules.{rules}
+use Prim.Native.Nat.{ℕ, ◌≤◌, ◌+◌}
+use mir.Val.{Fits}
+use mir.Syntax.{w64}
 use Rattle.am9517_service.proofs.runs.pace_of.Goals as goal
 
 -- without wait states
@@ -15,7 +16,8 @@ plain command = when_both (λ (x : ℕ). x ≤ 3) (compressed command) (omega ar
 pub overflow_add-result : goal.overflow_add-result
 overflow_add-result c =
     let at-compressed = c.before in let entry = at-compressed.before in
-    rw (c.when_long.ensures, at-compressed.compressed.ensures) (omega (arith, plain entry.args.command, entry.well_formed))
+    rw (c.when_long.ensures, at-compressed.compressed.ensures)
+      (when_both (λ (x : ℕ). Fits w64 (x + entry.args.waits)) (compressed entry.args.command) (omega (arith, entry.well_formed)) (omega (arith, entry.well_formed)))
 
 pub returns : goal.returns
 unfolding pace

@@ -14,7 +14,6 @@ use Rattle.am9517_service.specs.Answers.{stopped}
 use Rattle.am9517_service.specs.World.{memory_to_memory}
 use Rattle.am9517.specs.Fields.{channel}
 use native.Mathlib.Omega.{arith}
-use borrow.Author.Rules.{rules}
 use Rattle.am9517_service.proofs.runs.run.Goals as goal
 
 pub returns-then-no-ne0 : goal.returns-then-no-ne0

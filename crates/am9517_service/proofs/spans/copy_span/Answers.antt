@@ -2,7 +2,6 @@ use Rattle.words.proofs.ChoiceLaws.{when_hit, when_miss}
 use Rattle.am9517_service.specs.ClosedSpans.{copy_span}
 use borrow.Author.Tests.{le-leb, lt-leb}
 use mathlib.Core.Path.{sym}
-use borrow.Author.Rules.{rules}
 use Rattle.am9517_service.proofs.spans.copy_span.Goals as goal
 
 pub returns-then-most-limit : goal.returns-then-most-limit

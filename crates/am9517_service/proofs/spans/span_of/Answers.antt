@@ -4,9 +4,7 @@ use Rattle.am9517_service.proofs.SpanLaws.{goes_active, goes_other, span_ends, s
 use Rattle.am9517_service.specs.ClosedSpans.{span_of}
 use Rattle.words.specs.Choice.{when}
 use native.Mathlib.Omega.{arith}
-use mathlib.Core.Logic.{⊎_elim}
 use mathlib.Core.Path.{sym, ◌∙◌}
-use borrow.Author.Rules.{rules}
 use Rattle.am9517_service.proofs.spans.span_of.Goals as goal
 use Rattle.am9517_service.proofs.spans.span_of.Goals.{then-is_demand-is_cascade+else-not-active+else-is_cascade, else-is_demand-is_cascade}
 
@@ -29,10 +27,10 @@ returns-then-most-far c =
     let at-stock-of = at_least_lem.before in let at-if1 = at-stock-of.before in let at-is-cascade = at-if1.before in
     let at-is-demand = at-is-cascade.before in
     c.span_to-then-most-far.ensures ∙ span_ends _ _ _ _ _ _ _ _ _ at-stock-of.stock_of-stock.ensures at_least_lem.least-far.ensures (rw at-is-single.is_single.ensures at at-until-end.until_end-most.ensures) (elim c.if-is_demand-is_cascade.branch [
-      then-is_demand-is_cascade+else-not-active+else-is_cascade w ↦
-      goes_active _ _ _ (ap not w.if-not-active.false) (sym w.is_cascade-then-is_demand-is_cascade.ensures ∙ w.if-is_cascade.false)
-    | else-is_demand-is_cascade w ↦
-      goes_other _ _ _ (rw (c.is_demand.ensures, c.is_cascade.ensures) at w.if-is_demand-is_cascade.false)
+      | then-is_demand-is_cascade+else-not-active+else-is_cascade w ↦
+          goes_active _ _ _ (ap not w.if-not-active.false) (sym w.is_cascade-then-is_demand-is_cascade.ensures ∙ w.if-is_cascade.false)
+      | else-is_demand-is_cascade w ↦
+          goes_other _ _ _ (rw (c.is_demand.ensures, c.is_cascade.ensures) at w.if-is_demand-is_cascade.false)
     ]) (omega arith)
 
 pub returns : goal.returns
@@ -41,8 +39,8 @@ returns c =
     let at_least_lem = at-is-single.before in let at-stock-of = at_least_lem.before in let at-if1 = at-stock-of.before in
     let at-is-cascade = at-if1.before in let at-is-demand = at-is-cascade.before in
     c.span_to-2.ensures ∙ span_halts _ _ _ _ _ _ _ _ _ at-stock-of.stock_of-stock.ensures at_least_lem.least-far.ensures (rw at-is-single.is_single.ensures at at-until-end.until_end-most.ensures) (elim c.if-is_demand-is_cascade.branch [
-      then-is_demand-is_cascade+else-not-active+else-is_cascade w ↦
-      goes_active _ _ _ (ap not w.if-not-active.false) (sym w.is_cascade-then-is_demand-is_cascade.ensures ∙ w.if-is_cascade.false)
-    | else-is_demand-is_cascade w ↦
-      goes_other _ _ _ (rw (c.is_demand.ensures, c.is_cascade.ensures) at w.if-is_demand-is_cascade.false)
+      | then-is_demand-is_cascade+else-not-active+else-is_cascade w ↦
+          goes_active _ _ _ (ap not w.if-not-active.false) (sym w.is_cascade-then-is_demand-is_cascade.ensures ∙ w.if-is_cascade.false)
+      | else-is_demand-is_cascade w ↦
+          goes_other _ _ _ (rw (c.is_demand.ensures, c.is_cascade.ensures) at w.if-is_demand-is_cascade.false)
     ]) _ at-halt.halt.ensures (omega arith)

@@ -1,7 +1,6 @@
 use Rattle.am9517_service.specs.ClosedSpans.{stock_of}
 use Rattle.words.specs.Choice.{when}
 use mathlib.Core.Path.{sym, ◌∙◌}
-use borrow.Author.Rules.{rules}
 use Rattle.am9517_service.proofs.spans.stock_of.Goals as goal
 
 pub returns-then-is_write : goal.returns-then-is_write

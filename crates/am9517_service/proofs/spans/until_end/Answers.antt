@@ -1,7 +1,6 @@
 use Rattle.am9517_service.specs.ClosedSpans.{until_end}
 use Rattle.words.specs.Choice.{when}
 use borrow.Author.Tests.{eq-eqb, ne_eqb}
-use borrow.Author.Rules.{rules}
 use Rattle.am9517_service.proofs.spans.until_end.Goals as goal
 
 pub returns-then-once : goal.returns-then-once

@@ -1,5 +1,4 @@
 use Rattle.am9517_service.specs.ClosedLegs.{current_after}
-use borrow.Author.Rules.{rules}
 use Rattle.am9517_service.proofs.transfers.current_after.Goals as goal
 
 pub returns : goal.returns

@@ -4,7 +4,6 @@ use Rattle.words.proofs.ChoiceLaws.{when_both}
 use native.Mathlib.Omega.{arith}
 use mathlib.Core.Path.{refl}
 use Prim.Native.Nat.{ℕ, ◌-◌, ◌%◌, ◌≤◌}
-use borrow.Author.Rules.{rules}
 use Rattle.am9517_service.proofs.transfers.entered.Goals as goal
 
 pub overflow_add-result : goal.overflow_add-result

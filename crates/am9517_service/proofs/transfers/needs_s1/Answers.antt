@@ -1,4 +1,3 @@
-use borrow.Author.Rules.{rules}
 use Rattle.am9517_service.proofs.transfers.needs_s1.Goals as goal
 
 pub returns : goal.returns

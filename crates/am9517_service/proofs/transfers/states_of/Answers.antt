@@ -4,7 +4,6 @@ use Rattle.words.proofs.ChoiceLaws.{when_le}
 use native.Mathlib.Omega.{arith}
 use native.Mathlib.Nat.{mul-le-mul_left}
 use Prim.Native.Nat.{◌*◌, ◌≤◌}
-use borrow.Author.Rules.{rules}
 use Rattle.am9517_service.proofs.transfers.states_of.Goals as goal
 
 pub overflow_mul-result : goal.overflow_mul-result

@@ -2,7 +2,6 @@ use native.Mathlib.Omega.{arith}
 use Rattle.am9517.proofs.RangeLaws.{fields}
 use Rattle.am9517.proofs.ServingLaws.{picked_most}
 use Rattle.am9517_service.proofs.TurnLaws.{next_own}
-use borrow.Author.Rules.{rules}
 use Rattle.am9517_service.proofs.turns.next_of.Goals as goal
 
 pub bounds-nexts-last : goal.bounds-nexts-last

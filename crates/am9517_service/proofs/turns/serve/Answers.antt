@@ -1,10 +1,8 @@
-use mathlib.Core.Path.{◌≡◌, refl, ap, ◌∙◌}
-use mathlib.Core.Bool.{not}
+use mathlib.Core.Path.{refl, ◌∙◌}
 use native.Mathlib.Omega.{arith}
 use borrow.Author.Tests.{not-true, not-false}
 use Rattle.am9517.proofs.RangeLaws.{fields}
 use Rattle.am9517_service.proofs.TurnLaws.{serves, chosen, pace_small, alone_still, alone_served}
-use borrow.Author.Rules.{rules}
 use Rattle.am9517_service.proofs.turns.serve.Goals as goal
 
 pub bounds-nexts-last : goal.bounds-nexts-last

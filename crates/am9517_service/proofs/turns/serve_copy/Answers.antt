@@ -1,6 +1,5 @@
 use native.Mathlib.Omega.{arith}
 use Rattle.am9517_service.proofs.TurnLaws.{nexts_listed, copy_served}
-use borrow.Author.Rules.{rules}
 use Rattle.am9517_service.proofs.turns.serve_copy.Goals as goal
 
 pub copy_bytes-requires : goal.copy_bytes-requires

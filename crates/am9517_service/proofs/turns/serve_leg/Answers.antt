@@ -1,7 +1,6 @@
 use mathlib.Core.Path.{refl}
 use native.Mathlib.Omega.{arith}
 use Rattle.am9517_service.proofs.TurnLaws.{pace_small, turn_stocked, stood_served, leg_served}
-use borrow.Author.Rules.{rules}
 use Rattle.am9517_service.proofs.turns.serve_leg.Goals as goal
 
 pub returns-then-n-eq0 : goal.returns-then-n-eq0

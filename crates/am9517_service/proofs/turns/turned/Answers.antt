@@ -1,5 +1,4 @@
 use Rattle.am9517_service.proofs.TurnLaws.{nexts_listed}
-use borrow.Author.Rules.{rules}
 use Rattle.am9517_service.proofs.turns.turned.Goals as goal
 
 pub nexts_after-nexts-requires : goal.nexts_after-nexts-requires

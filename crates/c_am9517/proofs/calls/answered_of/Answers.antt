@@ -1,4 +1,3 @@
-use borrow.Author.Rules.{rules}
 use Rattle.c_am9517.proofs.calls.answered_of.Goals as goal
 
 pub returns : goal.returns

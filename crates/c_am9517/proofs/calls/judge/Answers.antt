@@ -1,7 +1,6 @@
 use mathlib.Core.Path.{ap}
 use lib.ListN.{length}
 use Rattle.c_am9517.specs.Host.{judge_call_of}
-use borrow.Author.Rules.{rules}
 use Rattle.c_am9517.proofs.calls.judge.Goals as goal
 
 pub returns : goal.returns

@@ -1,6 +1,5 @@
 use mathlib.Core.Path.{ap}
 use Rattle.c_am9517.specs.Host.{load_of}
-use borrow.Author.Rules.{rules}
 use Rattle.c_am9517.proofs.calls.load_in.Goals as goal
 
 pub returns : goal.returns

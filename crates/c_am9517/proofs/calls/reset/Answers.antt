@@ -1,5 +1,4 @@
 use Rattle.c_am9517.proofs.CallLaws.{number_only}
-use borrow.Author.Rules.{rules}
 use Rattle.c_am9517.proofs.calls.reset.Goals as goal
 
 pub returns : goal.returns

@@ -2,7 +2,6 @@ use mathlib.Core.Path.{◌∙◌, sym}
 use Rattle.words.specs.Choice.{when}
 use Rattle.words.specs.Grounds.{first}
 use Rattle.am9517.specs.Refusals.{refusal}
-use borrow.Author.Rules.{rules}
 use Rattle.c_am9517.proofs.calls.shown.Goals as goal
 
 pub returns-then-valid : goal.returns-then-valid

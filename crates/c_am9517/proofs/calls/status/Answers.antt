@@ -1,5 +1,4 @@
 use Rattle.am9517.specs.Serving.{status}
-use borrow.Author.Rules.{rules}
 use Rattle.c_am9517.proofs.calls.status.Goals as goal
 
 pub returns : goal.returns

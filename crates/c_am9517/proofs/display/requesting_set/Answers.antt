@@ -1,6 +1,5 @@
 use Rattle.c_am9517.proofs.DisplayLaws.{requesting}
 use mathlib.Core.Path.{◌∙◌}
-use borrow.Author.Rules.{rules}
 use Rattle.c_am9517.proofs.display.requesting_set.Goals as goal
 
 pub returns : goal.returns

@@ -1,6 +1,5 @@
 use mathlib.Core.Path.{◌∙◌, ap}
 use Rattle.c_board.specs.Host.{call_of}
-use borrow.Author.Rules.{rules}
 use Rattle.c_board.proofs.calls.grant.Goals as goal
 
 pub returns : goal.returns

@@ -3,7 +3,6 @@ use Rattle.words.specs.Choice.{when}
 use Rattle.board.specs.declared.Chip.{Chip}
 use Rattle.board.specs.Sheets.{board_sheet_read_of}
 use Rattle.c_board.specs.Host.{load_of, load_call_of}
-use borrow.Author.Rules.{rules}
 use Rattle.c_board.proofs.calls.load_in.Goals as goal
 
 pub returns-then-names_none : goal.returns-then-names_none

@@ -1,4 +1,3 @@
-use borrow.Author.Rules.{rules}
 use Rattle.c_board.proofs.calls.round_told_of.Goals as goal
 
 pub returns : goal.returns

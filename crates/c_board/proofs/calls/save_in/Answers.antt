@@ -4,7 +4,6 @@ use Rattle.board.specs.declared.Chip.{Chip}
 use Rattle.board.specs.Sheets.{board_sheet_write_of}
 use Rattle.c_told.specs.Numbers.{save_of}
 use Rattle.c_board.specs.Host.{save_call_of}
-use borrow.Author.Rules.{rules}
 use Rattle.c_board.proofs.calls.save_in.Goals as goal
 
 pub returns-then-names_none : goal.returns-then-names_none

@@ -1,6 +1,5 @@
 use mathlib.Core.Path.{◌∙◌}
 use Rattle.c_board.proofs.CallLaws.{number_only, waits_of_none, waits_of_one}
-use borrow.Author.Rules.{rules}
 use Rattle.c_board.proofs.calls.waits.Goals as goal
 
 pub returns-then-valid-names_none : goal.returns-then-valid-names_none

@@ -1,5 +1,4 @@
 use Rattle.c_board.proofs.CallLaws.{number_only}
-use borrow.Author.Rules.{rules}
 use Rattle.c_board.proofs.calls.write.Goals as goal
 
 pub returns : goal.returns

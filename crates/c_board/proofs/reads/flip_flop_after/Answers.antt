@@ -3,7 +3,6 @@ use Rattle.words.specs.Grounds.{first}
 use Rattle.am9517.specs.Registers.{after_read}
 use Rattle.c_board.proofs.ReadLaws.{flip_flop_kept}
 use borrow.Author.Tests.{lt-ltb}
-use borrow.Author.Rules.{rules}
 use Rattle.c_board.proofs.reads.flip_flop_after.Goals as goal
 
 pub returns-then-reg-lt8 : goal.returns-then-reg-lt8

@@ -1,5 +1,4 @@
 use Rattle.c_board.proofs.ReadLaws.{read_refused, read_first, read_second}
-use borrow.Author.Rules.{rules}
 use Rattle.c_board.proofs.reads.read.Goals as goal
 
 pub returns-then-no-ne0 : goal.returns-then-no-ne0

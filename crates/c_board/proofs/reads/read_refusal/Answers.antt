@@ -1,7 +1,6 @@
 use mathlib.Core.Path.{ap}
 use mathlib.Core.Bool.{not}
 use Rattle.c_board.proofs.ReadLaws.{each_asked, both_asked, number_asked, service_asked, register_asked}
-use borrow.Author.Rules.{rules}
 use Rattle.c_board.proofs.reads.read_refusal.Goals as goal
 
 pub returns-then-not-each : goal.returns-then-not-each

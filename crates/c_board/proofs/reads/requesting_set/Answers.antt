@@ -1,6 +1,5 @@
 use Rattle.c_board.proofs.ReadLaws.{requesting}
 use mathlib.Core.Path.{◌∙◌}
-use borrow.Author.Rules.{rules}
 use Rattle.c_board.proofs.reads.requesting_set.Goals as goal
 
 pub returns : goal.returns

@@ -1,6 +1,5 @@
 use Rattle.c_board.proofs.ReadLaws.{tc_left}
 use mathlib.Core.Path.{◌∙◌}
-use borrow.Author.Rules.{rules}
 use Rattle.c_board.proofs.reads.tc_after.Goals as goal
 
 pub returns : goal.returns

@@ -3,7 +3,6 @@ use Rattle.words.specs.Grounds.{first}
 use Rattle.am9517.specs.Registers.{value, port_read}
 use Rattle.am9517.specs.Serving.{status}
 use borrow.Author.Tests.{lt-ltb, le-ltb, ne_eqb}
-use borrow.Author.Rules.{rules}
 use Rattle.c_board.proofs.reads.value_of.Goals as goal
 
 pub returns-then-reg-lt8 : goal.returns-then-reg-lt8

@@ -1,8 +1,6 @@
 use native.Mathlib.Omega.{arith}
 use Rattle.words.specs.Choice.{when}
-use Rattle.c_board.proofs.ReadLaws.{last_word}
 use mathlib.Core.Path.{◌≡◌}
-use borrow.Author.Rules.{rules}
 use Rattle.c_board.proofs.reads.word.Goals as goal
 
 pub returns-in-0 : goal.returns-in-0

@@ -1,7 +1,6 @@
 use Rattle.am9517_service.specs.Ends.{after_tc_or_eop}
 use Rattle.words.specs.Choice.{when}
 use mathlib.Core.Path.{sym, ◌∙◌}
-use borrow.Author.Rules.{rules}
 use Rattle.logs.proofs.ends.after_tc_or_eop.Goals as goal
 
 pub returns-then-is_copy : goal.returns-then-is_copy

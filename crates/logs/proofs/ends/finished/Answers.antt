@@ -1,6 +1,5 @@
 use mathlib.Core.Path.{◌∙◌}
 use Rattle.am9517_service.specs.Ends.{finished}
-use borrow.Author.Rules.{rules}
 use Rattle.logs.proofs.ends.finished.Goals as goal
 
 pub returns : goal.returns

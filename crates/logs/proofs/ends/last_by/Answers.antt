@@ -1,5 +1,4 @@
 use Rattle.words.specs.Choice.{when}
-use borrow.Author.Rules.{rules}
 use Rattle.logs.proofs.ends.last_by.Goals as goal
 
 pub returns-then-tc-eop : goal.returns-then-tc-eop

@@ -1,11 +1,9 @@
 use native.Mathlib.Omega.{arith}
 use mathlib.Core.Path.{sym, ap, ◌∙◌}
-use lib.ListN.{length-map}
 use Prim.Native.Nat.{◌<◌}
 use Rattle.am9517.specs.declared.Controller.{Controller}
 use Rattle.logs.proofs.RegisterLaws.{serving_same}
 use Rattle.logs.proofs.LastLaws.{last_made}
-use borrow.Author.Rules.{rules}
 use Rattle.logs.proofs.ends.make_last.Goals as goal
 
 pub last_by-requires : goal.last_by-requires

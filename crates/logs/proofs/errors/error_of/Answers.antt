@@ -3,7 +3,6 @@ use mir.Syntax.{w32}
 use mir.ValLaws.{to_z-of_z}
 use native.Mathlib.Omega.{arith}
 use Rattle.logs.proofs.ErrorLaws.{low, high, minus_fits}
-use borrow.Author.Rules.{rules}
 use Rattle.logs.proofs.errors.error_of.Goals as goal
 
 pub returns-then-d-lt32768 : goal.returns-then-d-lt32768

@@ -6,14 +6,12 @@ use Rattle.logs.specs.declared.registers.Service.{Service}
 use Rattle.logs.specs.declared.registers.Registers.{Registers}
 use Rattle.logs.specs.ClosedRegisters.{service_of, record_by}
 use Rattle.logs.specs.Judge.{found, signed, apart}
-use mathlib.Core.Path.{◌∙◌, sym, ap}
-use lib.ListN.{length, length-map}
+use mathlib.Core.Path.{◌∙◌, ap}
+use lib.ListN.{length}
 use native.Mathlib.Omega.{arith}
-use borrow.Author.Tests.{not-true, not-false}
 use Rattle.am9517.proofs.RangeLaws.{fields}
 use Rattle.logs.specs.Answers.{told}
 use Rattle.logs.proofs.JudgeLaws.{left_cut, left_wrong}
-use borrow.Author.Rules.{rules}
 use Rattle.logs.proofs.judging.finish.Goals as goal
 
 pub returns-then-size-at-lt8 : goal.returns-then-size-at-lt8

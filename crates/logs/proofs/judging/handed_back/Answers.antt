@@ -4,7 +4,6 @@ use Rattle.words.proofs.PartLaws.{tail_all}
 use Rattle.logs.specs.declared.Verdict.{Verdict}
 use Rattle.logs.specs.Answers.{place_of}
 use Rattle.logs.proofs.AnswerLaws.{past_all}
-use borrow.Author.Rules.{rules}
 use Rattle.logs.proofs.judging.handed_back.Goals as goal
 
 pub returns-then-at-size : goal.returns-then-at-size

@@ -1,6 +1,5 @@
 use mathlib.Core.Path.{◌∙◌, sym, ap}
 use lib.ListN.{length}
-use borrow.Author.Tests.{not-true, not-false}
 use Rattle.logs.specs.Answers.{told}
 use Rattle.logs.proofs.AnswerLaws.{stated, refused_by, found_by, flowing_in, here, still_by}
 use borrow.Author.Rules.{rules}

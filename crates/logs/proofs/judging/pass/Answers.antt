@@ -1,9 +1,7 @@
 use Rattle.logs.proofs.JudgeLaws.{passed}
 use mathlib.Core.Path.{◌∙◌, sym, subst}
-use Prim.Native.Nat.{◌-◌}
-use lib.ListN.{length, length-drop, length-map}
+use lib.ListN.{length-drop}
 use native.Mathlib.Omega.{arith}
-use borrow.Author.Rules.{rules}
 use Rattle.am9517.proofs.RangeLaws.{fields}
 use Rattle.logs.specs.declared.registers.Registers.{Registers}
 use Rattle.logs.proofs.RecordLaws.{one_there}

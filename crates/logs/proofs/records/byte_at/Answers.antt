@@ -1,5 +1,4 @@
 use Rattle.logs.proofs.RecordLaws.{none_behind}
-use borrow.Author.Rules.{rules}
 use Rattle.logs.proofs.records.byte_at.Goals as goal
 
 pub returns : goal.returns

@@ -1,4 +1,3 @@
-use borrow.Author.Rules.{rules}
 use Rattle.logs.proofs.records.bytes_of.Goals as goal
 
 pub returns : goal.returns

@@ -1,6 +1,5 @@
 use native.Mathlib.Omega.{arith}
 use Rattle.words.proofs.ChoiceLaws.{when_le}
-use borrow.Author.Rules.{rules}
 use Rattle.logs.proofs.records.flags_by.Goals as goal
 
 pub overflow_add-result : goal.overflow_add-result

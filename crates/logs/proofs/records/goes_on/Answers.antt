@@ -3,7 +3,6 @@ use Rattle.logs.specs.Judge.{same}
 use Rattle.logs.proofs.RecordLaws.{none_there, flagged, unflagged}
 use mathlib.Core.Path.{◌∙◌}
 use lib.ListN.{length-drop}
-use borrow.Author.Rules.{rules}
 use Rattle.logs.proofs.records.goes_on.Goals as goal
 
 pub returns-then-log-at-lt8 : goal.returns-then-log-at-lt8

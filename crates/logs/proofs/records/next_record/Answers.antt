@@ -1,5 +1,4 @@
 use mathlib.Core.Path.{◌∙◌, sym}
-use lib.ListN.{length-map}
 use native.Mathlib.Omega.{arith}
 use Rattle.am9517_service.proofs.AnswerLaws.{run_open, serving_is}
 use Rattle.logs.proofs.AnswerLaws.{none_told, next_told}

@@ -1,6 +1,5 @@
 use native.Mathlib.Nat.{add-zero}
 use lib.Seq.{get_or-drop}
-use borrow.Author.Rules.{rules}
 use Rattle.logs.proofs.records.record_at.Goals as goal
 
 pub returns : goal.returns

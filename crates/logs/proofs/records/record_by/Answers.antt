@@ -1,4 +1,3 @@
-use borrow.Author.Rules.{rules}
 use Rattle.logs.proofs.records.record_by.Goals as goal
 
 pub returns : goal.returns

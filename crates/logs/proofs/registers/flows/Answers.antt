@@ -1,6 +1,5 @@
 use Rattle.logs.specs.ClosedRegisters.{flows}
 use Rattle.am9517_service.specs.Stops.{dropped}
-use borrow.Author.Rules.{rules}
 use Rattle.logs.proofs.registers.flows.Goals as goal
 
 pub returns : goal.returns

@@ -1,5 +1,4 @@
 use Rattle.am9517_service.specs.World.{memory_to_memory}
-use borrow.Author.Rules.{rules}
 use Rattle.logs.proofs.registers.is_copy.Goals as goal
 
 pub returns : goal.returns

@@ -1,6 +1,5 @@
 use Rattle.logs.specs.Record.{kind_of}
 use Rattle.am9517_service.specs.Ends.{single}
-use borrow.Author.Rules.{rules}
 use Rattle.logs.proofs.registers.service_of.Goals as goal
 
 pub returns : goal.returns

@@ -1,7 +1,6 @@
 use Rattle.logs.specs.ClosedRegisters.{stored_by}
 use Rattle.words.specs.Choice.{when}
 use borrow.Author.Tests.{eq-eqb, ne_eqb}
-use borrow.Author.Rules.{rules}
 use Rattle.logs.proofs.registers.store_by.Goals as goal
 
 pub returns-then-s-eq1 : goal.returns-then-s-eq1

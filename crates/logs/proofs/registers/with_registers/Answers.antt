@@ -1,6 +1,5 @@
 use Rattle.words.specs.Choice.{when}
 use mathlib.Core.Path.{sym, ◌∙◌}
-use borrow.Author.Rules.{rules}
 use Rattle.logs.proofs.registers.with_registers.Goals as goal
 
 pub returns-then-copies : goal.returns-then-copies

@@ -1,5 +1,4 @@
 use mathlib.Core.Path.{sym}
-use borrow.Author.Rules.{rules}
 use Rattle.words.proofs.BitLaws.{bit_above}
 use Rattle.words.proofs.bits.bit.Goals as goal
 

@@ -1,4 +1,3 @@
-use borrow.Author.Rules.{rules}
 use Rattle.words.proofs.bits.is_set.Goals as goal
 
 pub returns : goal.returns

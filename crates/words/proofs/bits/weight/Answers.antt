@@ -1,4 +1,3 @@
-use borrow.Author.Rules.{rules}
 use Rattle.words.proofs.BitLaws.{weight_fits}
 use Rattle.words.proofs.bits.weight.Goals as goal
 

@@ -1,6 +1,5 @@
 use native.Mathlib.Nat.{add-zero}
 use borrow.Author.Tests.{le-ltb, lt-ltb}
-use borrow.Author.Rules.{rules}
 use Rattle.words.specs.Bits.{with_bit}
 use Rattle.words.specs.Choice.{when}
 use Rattle.words.proofs.BitLaws.{bit_set, bit_cleared}

@@ -1,4 +1,3 @@
-use borrow.Author.Rules.{rules}
 use Rattle.words.specs.Bytes.{byte_of}
 use Rattle.words.specs.Choice.{when}
 use Rattle.words.proofs.bytes.byte_of.Goals as goal

@@ -1,4 +1,3 @@
-use borrow.Author.Rules.{rules}
 use Rattle.words.specs.Bytes.{with_byte}
 use Rattle.words.specs.Choice.{when}
 use Rattle.words.proofs.bytes.with_byte.Goals as goal

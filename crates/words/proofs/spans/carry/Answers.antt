@@ -1,8 +1,6 @@
-use Rattle.words.proofs.SpreadLaws.{Carrying, carrying_start, carrying_on, carrying_end}
+use Rattle.words.proofs.SpreadLaws.{carrying_start, carrying_on, carrying_end}
 use Rattle.words.proofs.SpanLaws.{within_computed, within_inside}
-use Rattle.words.specs.Spans.{place_of}
 use native.Mathlib.Omega.{arith}
-use Prim.Native.Nat.{◌-◌}
 use Rattle.words.proofs.spans.carry.Goals as goal
 
 pub loop-j-init : goal.loop-j-init

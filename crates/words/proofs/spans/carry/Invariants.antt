@@ -1,7 +1,5 @@
-use Rattle.words.proofs.SpreadLaws.{Carrying, carrying_start, carrying_on, carrying_end}
-use Rattle.words.proofs.SpanLaws.{within_computed, within_inside}
+use Rattle.words.proofs.SpreadLaws.{Carrying}
 use Rattle.words.specs.Spans.{place_of}
-use native.Mathlib.Omega.{arith}
 use Prim.Native.Nat.{◌-◌}
 use Rattle.words.proofs.spans.carry.Given as goal
 

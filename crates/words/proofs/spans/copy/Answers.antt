@@ -1,8 +1,6 @@
-use Rattle.words.proofs.SpreadLaws.{Copying, copying_start, copying_on, copying_end}
+use Rattle.words.proofs.SpreadLaws.{copying_start, copying_on, copying_end}
 use Rattle.words.proofs.SpanLaws.{within_computed, within_inside}
-use Rattle.words.specs.Spans.{place_of}
 use native.Mathlib.Omega.{arith}
-use Prim.Native.Nat.{◌-◌}
 use Rattle.words.proofs.spans.copy.Goals as goal
 
 pub loop-j-init : goal.loop-j-init

@@ -1,7 +1,5 @@
-use Rattle.words.proofs.SpreadLaws.{Copying, copying_start, copying_on, copying_end}
-use Rattle.words.proofs.SpanLaws.{within_computed, within_inside}
+use Rattle.words.proofs.SpreadLaws.{Copying}
 use Rattle.words.specs.Spans.{place_of}
-use native.Mathlib.Omega.{arith}
 use Prim.Native.Nat.{◌-◌}
 use Rattle.words.proofs.spans.copy.Given as goal
 

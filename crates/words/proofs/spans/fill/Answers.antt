@@ -1,10 +1,9 @@
-use Rattle.words.proofs.SpreadLaws.{Carrying, carrying_start, carrying_on, carrying_end, put_same}
+use Rattle.words.proofs.SpreadLaws.{carrying_start, carrying_on, carrying_end, put_same}
 use Rattle.words.proofs.SpanLaws.{within_computed, within_inside}
-use Rattle.words.specs.Spans.{place_of}
 use native.Mathlib.Omega.{arith}
 use lib.ListN.{length, get_or}
-use mathlib.Core.Path.{◌≡◌, refl, sym}
-use Prim.Native.Nat.{ℕ, ◌-◌, ◌<◌}
+use mathlib.Core.Path.{refl, sym}
+use Prim.Native.Nat.{◌<◌}
 use Rattle.words.proofs.spans.fill.Goals as goal
 
 pub loop-j-init : goal.loop-j-init

@@ -1,10 +1,8 @@
-use Rattle.words.proofs.SpreadLaws.{Carrying, carrying_start, carrying_on, carrying_end, put_same}
-use Rattle.words.proofs.SpanLaws.{within_computed, within_inside}
+use Rattle.words.proofs.SpreadLaws.{Carrying}
 use Rattle.words.specs.Spans.{place_of}
-use native.Mathlib.Omega.{arith}
-use lib.ListN.{length, get_or}
-use mathlib.Core.Path.{◌≡◌, refl, sym}
-use Prim.Native.Nat.{ℕ, ◌-◌, ◌<◌}
+use lib.ListN.{get_or}
+use mathlib.Core.Path.{◌≡◌}
+use Prim.Native.Nat.{ℕ, ◌-◌}
 use Rattle.words.proofs.spans.fill.Given as goal
 
 abbrev pub invariant-loop-j : goal.invariant-loop-j

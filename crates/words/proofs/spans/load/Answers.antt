@@ -3,7 +3,6 @@ use Rattle.words.proofs.SpanLaws.{pieces, within_front, front_is, front_first}
 use Rattle.words.specs.Spans.{spread}
 use native.Mathlib.Omega.{arith}
 use mathlib.Core.Path.{◌≡◌, ap, ◌∙◌}
-use borrow.Author.Rules.{rules}
 use Rattle.words.proofs.spans.load.Goals as goal
 
 pub copy-requires : goal.copy-requires

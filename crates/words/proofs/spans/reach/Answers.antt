@@ -1,4 +1,3 @@
-use borrow.Author.Rules.{rules}
 use Rattle.words.specs.Choice.{when}
 use Rattle.words.specs.Spans.{reach_of}
 use Rattle.words.proofs.spans.reach.Goals as goal

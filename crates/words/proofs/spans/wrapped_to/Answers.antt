@@ -1,4 +1,3 @@
-use borrow.Author.Rules.{rules}
 use Rattle.words.specs.Choice.{when}
 use Rattle.words.specs.Spans.{wrapped_to}
 use Rattle.words.proofs.spans.wrapped_to.Goals as goal

@@ -1,11 +1,13 @@
+use mir.Val.{Fits}
+use mir.Syntax.{w64}
 use native.Mathlib.Omega.{arith}
-use borrow.Author.Rules.{rules}
 use Rattle.words.specs.Steps.{step, stride}
-use Rattle.words.proofs.StepLaws.{stride_fits}
+use Prim.Native.Nat.{ℕ, ◌+◌}
+use Rattle.words.proofs.ChoiceLaws.{when_both}
 use Rattle.words.proofs.steps.step.Goals as goal
 
 pub overflow_add-result : goal.overflow_add-result
-overflow_add-result c = rw c.when_long.ensures (omega (arith, stride_fits c.before.args.down 1))
+overflow_add-result c = rw c.when_long.ensures (when_both (λ (s : ℕ). Fits w64 (c.before.args.x + s)) c.before.args.down (omega arith) (omega arith))
 
 pub returns : goal.returns
 unfolding step stride

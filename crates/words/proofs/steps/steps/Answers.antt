@@ -1,6 +1,5 @@
 use Prim.Native.Nat.{◌%◌}
 use native.Mathlib.Omega.{arith}
-use borrow.Author.Rules.{rules}
 use Rattle.words.proofs.StepLaws.{stride_fits, steps_wrapped}
 use Rattle.words.proofs.steps.steps.Goals as goal
 
