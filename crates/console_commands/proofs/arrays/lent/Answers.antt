@@ -1,6 +1,5 @@
 use mathlib.Core.Path.{ap}
 use Rattle.console_commands.specs.Needs.{with_lent}
-use borrow.Author.Rules.{rules}
 use Rattle.console_commands.proofs.arrays.lent.Goals as goal
 
 pub returns : goal.returns

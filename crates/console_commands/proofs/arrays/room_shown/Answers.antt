@@ -4,7 +4,6 @@ use native.Mathlib.Omega.{arith}
 use lib.ListN.{take}
 use Rattle.console_text.specs.Text.{page, put}
 use Rattle.console_arrays.specs.Arrays.{peek_text}
-use borrow.Author.Rules.{rules}
 use Rattle.console_commands.proofs.arrays.room_shown.Goals as goal
 
 pub returns : goal.returns

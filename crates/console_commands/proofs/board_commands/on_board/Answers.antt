@@ -2,7 +2,6 @@ use mathlib.Core.Path.{ap}
 use Rattle.board.specs.declared.Board.{Board}
 use Rattle.console_chip.specs.Answers.{Said}
 use Rattle.console_commands.specs.Needs.{with_board}
-use borrow.Author.Rules.{rules}
 use Rattle.console_commands.proofs.board_commands.on_board.Goals as goal
 
 pub returns : goal.returns

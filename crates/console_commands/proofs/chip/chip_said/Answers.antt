@@ -3,7 +3,6 @@ use Rattle.console_commands.specs.Doings.{chip_reply}
 use Rattle.words.proofs.ChoiceLaws.{when_hit}
 use borrow.Author.Tests.{le-leb}
 use mathlib.Core.Path.{ap, ◌∙◌}
-use borrow.Author.Rules.{rules}
 use Rattle.console_commands.proofs.chip.chip_said.Goals as goal
 
 pub returns-in-State : goal.returns-in-State

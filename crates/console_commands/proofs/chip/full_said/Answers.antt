@@ -1,5 +1,4 @@
 use Rattle.console_chip.proofs.AnswerLaws.{said_so}
-use borrow.Author.Rules.{rules}
 use Rattle.console_commands.proofs.chip.full_said.Goals as goal
 
 pub returns : goal.returns

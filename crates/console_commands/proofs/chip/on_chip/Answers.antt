@@ -2,7 +2,6 @@ use mathlib.Core.Path.{ap}
 use Rattle.am9517.specs.declared.Controller.{Controller}
 use Rattle.console_chip.specs.Answers.{Said}
 use Rattle.console_commands.specs.Needs.{with_controller}
-use borrow.Author.Rules.{rules}
 use Rattle.console_commands.proofs.chip.on_chip.Goals as goal
 
 pub returns : goal.returns

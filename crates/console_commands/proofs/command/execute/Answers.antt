@@ -4,11 +4,10 @@ use Rattle.console_commands.proofs.HoldingLaws.{standing, stands_so, stays_so}
 use Rattle.console_commands.proofs.LineLaws.{executed_so}
 use Rattle.console_arrays.proofs.ArrayLaws.{held_length}
 use Rattle.words.specs.Choice.{when}
-use borrow.Author.Tests.{not-true, not-false, lt-ltb}
+use borrow.Author.Tests.{lt-ltb}
 use native.Mathlib.Omega.{arith}
 use mathlib.Core.Path.{refl, sym, ◌∙◌}
 use mathlib.Core.List.{[]}
-use borrow.Author.Rules.{rules}
 use Rattle.console_commands.proofs.command.execute.Goals as goal
 
 pub returns-then-not-stands : goal.returns-then-not-stands

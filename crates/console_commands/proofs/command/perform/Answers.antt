@@ -3,7 +3,6 @@ use Rattle.console_commands.proofs.HoldingLaws.{stays_so, controlled_so, boarded
 use Rattle.console_text.proofs.TextLaws.{put_none}
 use mathlib.Core.Path.{refl, sym}
 use mathlib.Core.List.{[]}
-use borrow.Author.Rules.{rules}
 use Rattle.console_commands.proofs.command.perform.Goals as goal
 
 pub returns-in-Nothing : goal.returns-in-Nothing

@@ -1,6 +1,5 @@
 use Rattle.console_text.proofs.TextLaws.{put_both, put_one_lem}
 use mathlib.Core.Path.{sym, ◌∙◌}
-use borrow.Author.Rules.{rules}
 use Rattle.console_commands.proofs.holding.error_line.Goals as goal
 
 pub returns : goal.returns

@@ -3,7 +3,6 @@ use Rattle.console_text.proofs.TextLaws.{put_none, put_one_lem}
 use Rattle.words.specs.Choice.{when}
 use borrow.Author.Tests.{eq-eqb, ne_eqb}
 use mathlib.Core.Path.{sym, ◌∙◌}
-use borrow.Author.Rules.{rules}
 use Rattle.console_commands.proofs.holding.newline.Goals as goal
 
 pub returns-then-name-eq0 : goal.returns-then-name-eq0

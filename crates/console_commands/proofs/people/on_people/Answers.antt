@@ -1,7 +1,6 @@
 use Rattle.console_text.proofs.TextLaws.{put_none}
 use mathlib.Core.Path.{sym}
 use mathlib.Core.List.{[]}
-use borrow.Author.Rules.{rules}
 use Rattle.console_commands.proofs.people.on_people.Goals as goal
 
 pub returns-then-spare-n : goal.returns-then-spare-n

@@ -1,5 +1,4 @@
 use mathlib.Core.Path.{refl}
-use borrow.Author.Rules.{rules}
 use Rattle.console_commands.proofs.services.after_service.Goals as goal
 
 pub returns : goal.returns

@@ -2,7 +2,6 @@ use mathlib.Core.Path.{refl}
 use borrow.Author.Tests.{lt-ltb, le-ltb}
 use Rattle.words.specs.Choice.{when}
 use Rattle.console_commands.specs.Doings.{further}
-use borrow.Author.Rules.{rules}
 use Rattle.console_commands.proofs.services.further.Goals as goal
 
 pub returns-then-last-from : goal.returns-then-last-from

@@ -3,7 +3,6 @@ use Rattle.words.proofs.ChoiceLaws.{when_hit}
 use borrow.Author.Tests.{le-leb}
 use mathlib.Core.Path.{ap, ◌∙◌}
 use Rattle.console_commands.specs.Doings.{service_reply}
-use borrow.Author.Rules.{rules}
 use Rattle.console_commands.proofs.services.serve.Goals as goal
 
 pub returns-in-Run : goal.returns-in-Run
