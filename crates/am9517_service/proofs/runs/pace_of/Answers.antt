@@ -17,7 +17,7 @@ pub overflow_add-result : goal.overflow_add-result
 overflow_add-result c =
     let at-compressed = c.before in let entry = at-compressed.before in
     rw (c.when_long.ensures, at-compressed.compressed.ensures)
-      (when_both (λ (x : ℕ). Fits w64 (x + entry.args.waits)) (compressed entry.args.command) (omega (arith, entry.well_formed)) (omega (arith, entry.well_formed)))
+    (when_both (λ (x : ℕ). Fits w64 (x + entry.args.waits)) (compressed entry.args.command) (omega (arith, entry.well_formed)) (omega (arith, entry.well_formed)))
 
 pub returns : goal.returns
 unfolding pace
