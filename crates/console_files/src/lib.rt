@@ -2,14 +2,18 @@
 // `f.peek ADDR N FILE` is `peek ADDR N`, and its bytes go to the file; `f.forward FROM TO` is both. So the line is made one of the
 // console's, in its own array, and the console's answer counts. What is asked of traces and their log is not the console's either. Nothing is
 // promised but that this is safe and ends.
+#![tactic(auto)]
+
 mod complaint;
 mod lines;
 mod log;
 mod read;
+mod system;
 mod write;
 
 pub use lines::prepare;
 pub use log::{break_log, close_log, open_log};
+pub use system::{open_read, read_full, say, say_failed, say_number};
 pub use write::put_file;
 
 // What is to be done with a line.

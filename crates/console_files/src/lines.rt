@@ -129,10 +129,17 @@ fn failed(length: usize) -> Plan {
 }
 
 // The file's bytes in the place of its name; the place behind them, or 0 where it can't be read.
-fn put_bytes(number: u64, line: &mut [u8], from: usize, to: usize, bytes: &mut [u8]) -> usize
+fn put_bytes(
+    rt: HostRuntime,
+    number: u64,
+    line: &mut [u8],
+    from: usize,
+    to: usize,
+    bytes: &mut [u8],
+) -> usize
     requires { (from ≤ to) × (to ≤ length line.old) }
 {
-    let read = read_file(number, &line[from..to], bytes);
+    let read = read_file(rt, number, &line[from..to], bytes);
     match read {
         Read::Whole(n) => {
             if bytes.len() < n {
@@ -144,10 +151,17 @@ fn put_bytes(number: u64, line: &mut [u8], from: usize, to: usize, bytes: &mut [
     }
 }
 
-fn reading(number: u64, line: &mut [u8], from: usize, to: usize, bytes: &mut [u8]) -> Plan
+fn reading(
+    rt: HostRuntime,
+    number: u64,
+    line: &mut [u8],
+    from: usize,
+    to: usize,
+    bytes: &mut [u8],
+) -> Plan
     requires { (from ≤ to) × (to ≤ length line.old) }
 {
-    let length = put_bytes(number, line, from, to, bytes);
+    let length = put_bytes(rt, number, line, from, to, bytes);
     if length == 0 {
         return failed(to);
     }
@@ -161,9 +175,9 @@ fn reading(number: u64, line: &mut [u8], from: usize, to: usize, bytes: &mut [u8
 }
 
 // The name of a file to be written is kept; its length, or 0 where it is too long.
-fn kept(number: u64, name: &[u8], path: &mut [u8]) -> usize {
+fn kept(rt: HostRuntime, number: u64, name: &[u8], path: &mut [u8]) -> usize {
     if NAME < name.len() {
-        complain_of(number, b"a name of more than 4000 characters", b"\n");
+        complain_of(rt, number, b"a name of more than 4000 characters", b"\n");
         return 0;
     }
     text(path, 0, name)
@@ -171,6 +185,7 @@ fn kept(number: u64, name: &[u8], path: &mut [u8]) -> usize {
 
 // In the place of the file's name stands what the console needs.
 fn writing(
+    rt: HostRuntime,
     number: u64,
     line: &mut [u8],
     from: usize,
@@ -180,7 +195,7 @@ fn writing(
 ) -> Plan
     requires { (from ≤ to) × (to ≤ length line.old) }
 {
-    let name = kept(number, &line[from..to], path);
+    let name = kept(rt, number, &line[from..to], path);
     if name == 0 {
         return failed(to);
     }
@@ -196,6 +211,7 @@ fn writing(
 
 // In the place of the first name stand that file's bytes, in that of the second, the last word, what the console needs.
 fn converting(
+    rt: HostRuntime,
     number: u64,
     line: &mut [u8],
     source: Span,
@@ -208,11 +224,11 @@ fn converting(
 {
     let from = target.from;
     let to = target.to;
-    let name = kept(number, &line[from..to], path);
+    let name = kept(rt, number, &line[from..to], path);
     if name == 0 {
         return failed(to);
     }
-    let next = put_bytes(number, line, source.from, source.to, bytes);
+    let next = put_bytes(rt, number, line, source.from, source.to, bytes);
     if next == 0 {
         return failed(to);
     }
@@ -233,6 +249,7 @@ fn blank_front(line: &mut [u8], at: usize) {
 
 // A command with as many words as its name asks for, the first of them and the last.
 fn planned(
+    rt: HostRuntime,
     number: u64,
     line: &mut [u8],
     shape: Shape,
@@ -245,16 +262,17 @@ fn planned(
 {
     match shape {
         Shape::Other => as_it_is(last.to),
-        Shape::Reads(_) => reading(number, line, last.from, last.to, bytes),
-        Shape::Writes(_) => writing(number, line, last.from, last.to, b"", path),
-        Shape::Stores => writing(number, line, last.from, last.to, b"56", path),
-        Shape::Stores2 => writing(number, line, last.from, last.to, b"58", path),
-        Shape::Forward => converting(number, line, first, last, b" 58", bytes, path),
-        Shape::Back => converting(number, line, first, last, b" 56", bytes, path),
+        Shape::Reads(_) => reading(rt, number, line, last.from, last.to, bytes),
+        Shape::Writes(_) => writing(rt, number, line, last.from, last.to, b"", path),
+        Shape::Stores => writing(rt, number, line, last.from, last.to, b"56", path),
+        Shape::Stores2 => writing(rt, number, line, last.from, last.to, b"58", path),
+        Shape::Forward => converting(rt, number, line, first, last, b" 58", bytes, path),
+        Shape::Back => converting(rt, number, line, first, last, b" 56", bytes, path),
     }
 }
 
 fn file_plan(
+    rt: HostRuntime,
     number: u64,
     line: &mut [u8],
     front: usize,
@@ -273,11 +291,18 @@ fn file_plan(
         return as_it_is(size);
     }
     blank_front(line, front);
-    planned(number, line, shape, first, words, bytes, path)
+    planned(rt, number, line, shape, first, words, bytes, path)
 }
 
 // What is asked of traces: `trace on`, `trace off`, `log FILE`, `log off`.
-fn trace_plan(number: u64, name: &[u8], word: &[u8], size: usize, path: &mut [u8]) -> Plan {
+fn trace_plan(
+    rt: HostRuntime,
+    number: u64,
+    name: &[u8],
+    word: &[u8],
+    size: usize,
+    path: &mut [u8],
+) -> Plan {
     let is_off = same(word, b"off");
     if same(name, b"trace") {
         if is_off | same(word, b"on") {
@@ -289,10 +314,15 @@ fn trace_plan(number: u64, name: &[u8], word: &[u8], size: usize, path: &mut [u8
         return plan_for(Task::LogOff, size, 0);
     }
     if same(word, b"on") {
-        complain_of(number, word, b" is no file here: log FILE, or log off\n");
+        complain_of(
+            rt,
+            number,
+            word,
+            b" is no file here: log FILE, or log off\n",
+        );
         return failed(size);
     }
-    let length = kept(number, word, path);
+    let length = kept(rt, number, word, path);
     if length == 0 {
         return failed(size);
     }
@@ -308,7 +338,14 @@ fn is_leave(name: &[u8]) -> bool {
 }
 
 // A line whose first word begins as those do that are not the console's.
-fn own_plan(number: u64, line: &mut [u8], size: usize, bytes: &mut [u8], path: &mut [u8]) -> Plan
+fn own_plan(
+    rt: HostRuntime,
+    number: u64,
+    line: &mut [u8],
+    size: usize,
+    bytes: &mut [u8],
+    path: &mut [u8],
+) -> Plan
     requires { size ≤ length line.old }
 {
     let n = said(&line[0..size]);
@@ -327,11 +364,11 @@ fn own_plan(number: u64, line: &mut [u8], size: usize, bytes: &mut [u8], path: &
         if words.count == 1 {
             let first = words.from;
             let last = words.to;
-            return trace_plan(number, &line[from..to], &line[first..last], size, path);
+            return trace_plan(rt, number, &line[from..to], &line[first..last], size, path);
         }
         return as_it_is(size);
     }
-    file_plan(number, line, from, to, n, size, bytes, path)
+    file_plan(rt, number, line, from, to, n, size, bytes, path)
 }
 
 // Whether a line that begins so may be one that is not the console's: the console's own are let through at once.
@@ -343,6 +380,7 @@ fn may_be_own(b: u8) -> bool {
 
 // `bytes` is for a file's bytes, `path` keeps a file's name; `number` is the line's, for what is said of a file.
 pub fn prepare(
+    rt: HostRuntime,
     number: u64,
     line: &mut [u8],
     length: usize,
@@ -361,5 +399,5 @@ pub fn prepare(
     if !may_be_own(line[0]) {
         return as_it_is(length);
     }
-    own_plan(number, line, length, bytes, path)
+    own_plan(rt, number, line, length, bytes, path)
 }

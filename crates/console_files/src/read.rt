@@ -1,5 +1,8 @@
 // A file's bytes, whole or not at all.
 use crate::complaint::{complain, complain_of};
+use crate::system::{open_read, read_full};
+use std::fs::File;
+use std::io::Read as _;
 
 // No array of the console has more bytes.
 const MOST: usize = 70000;
@@ -11,31 +14,34 @@ pub(crate) enum Read {
 }
 
 // Whether all of an open file was read: the end comes next.
-fn is_whole(fd: i32, number: u64, name: &[u8], n: usize) -> bool {
+fn is_whole(rt: HostRuntime, file: &File, number: u64, name: &[u8], n: usize) -> bool {
+    let mut input = file;
     let mut more = [0u8; 1];
-    let got = libc::read(fd, &mut more);
-    if got < 0 {
-        complain(number, name);
-        return false;
-    }
+    let got = match input.read(&mut more) {
+        Ok(got) => got,
+        Err(error) => {
+            complain(rt, number, name, error);
+            return false;
+        }
+    };
     if (got > 0) | (MOST < n) {
-        complain_of(number, name, b" has more than 70000 bytes\n");
+        complain_of(rt, number, name, b" has more than 70000 bytes\n");
         return false;
     }
     true
 }
 
 // Puts the bytes of the file at the front of `bytes`.
-pub(crate) fn read_file(number: u64, name: &[u8], bytes: &mut [u8]) -> Read {
-    let fd = os::open_read(name);
-    if fd < 0 {
-        complain(number, name);
-        return Read::Failed;
-    }
-    let n = io::read_full(fd, bytes);
-    let whole = is_whole(fd, number, name, n);
-    libc::close(fd);
-    if whole {
+pub(crate) fn read_file(rt: HostRuntime, number: u64, name: &[u8], bytes: &mut [u8]) -> Read {
+    let file = match open_read(rt, name) {
+        Ok(file) => file,
+        Err(error) => {
+            complain(rt, number, name, error);
+            return Read::Failed;
+        }
+    };
+    let n = read_full(&file, bytes);
+    if is_whole(rt, &file, number, name, n) {
         return Read::Whole(n);
     }
     Read::Failed

@@ -1,45 +1,52 @@
 // A file is written whole under a name of its own, NAME.part, and then takes its name: the old one stays until then.
 use crate::complaint::complain;
+use crate::system::{create, rename, unlink};
 use console_text::hex::store;
 use console_text::line::same;
 use console_text::page::text;
+use std::fs::File;
+use std::io;
+use std::io::Write;
 
 // Writes the bytes to an open file, down to its device.
-fn fill(fd: i32, bytes: &[u8]) -> bool {
-    if !io::write_all(fd, bytes) {
-        return false;
-    }
-    libc::fsync(fd) == 0
+fn fill(file: &File, bytes: &[u8]) -> io::Result<()> {
+    let mut output = file;
+    output.write_all(bytes)?;
+    file.sync_all()
 }
 
-fn fill_and_close(fd: i32, bytes: &[u8]) -> bool {
-    let is_full = fill(fd, bytes);
-    let is_closed = libc::close(fd) == 0;
-    is_full & is_closed
+// std tells no error of closing; what is on its device has none left.
+fn fill_and_close(file: File, bytes: &[u8]) -> io::Result<()> {
+    fill(&file, bytes)
+}
+
+// A file half made is taken away, and what went wrong with the one of this name is said.
+fn give_up(rt: HostRuntime, number: u64, part: &[u8], name: &[u8], error: io::Error) -> bool {
+    complain(rt, number, name, error);
+    let _ = unlink(rt, part);
+    false
 }
 
 // Makes the file under its name for the time being, which nobody else's file may have, and gives it its name.
-fn replace(number: u64, part: &[u8], name: &[u8], bytes: &[u8]) -> bool {
-    let fd = os::create(part);
-    if fd < 0 {
-        complain(number, part);
-        return false;
+fn replace(rt: HostRuntime, number: u64, part: &[u8], name: &[u8], bytes: &[u8]) -> bool {
+    let file = match create(rt, part) {
+        Ok(file) => file,
+        Err(error) => {
+            complain(rt, number, part, error);
+            return false;
+        }
+    };
+    if let Err(error) = fill_and_close(file, bytes) {
+        return give_up(rt, number, part, part, error);
     }
-    if !fill_and_close(fd, bytes) {
-        complain(number, part);
-        os::unlink(part);
-        return false;
-    }
-    if os::rename(part, name) < 0 {
-        complain(number, name);
-        os::unlink(part);
-        return false;
+    if let Err(error) = rename(rt, part, name) {
+        return give_up(rt, number, part, name, error);
     }
     true
 }
 
-fn write_file(number: u64, name: &[u8], bytes: &[u8]) -> bool {
-    let mut space = io::buffer();
+fn write_file(rt: HostRuntime, number: u64, name: &[u8], bytes: &[u8]) -> bool {
+    let mut space = [0u8; 4096];
     let page: &mut [u8] = &mut space;
     let next = text(page, 0, name);
     let end = text(page, next, b".part");
@@ -47,11 +54,12 @@ fn write_file(number: u64, name: &[u8], bytes: &[u8]) -> bool {
     if whole.len() < end {
         return false;
     }
-    replace(number, &whole[0..end], name, bytes)
+    replace(rt, number, &whole[0..end], name, bytes)
 }
 
 // The answer from `at` up to `end`: where it is bytes they go to the file, and the answer is whether they did.
 pub fn put_file(
+    rt: HostRuntime,
     number: u64,
     name: &[u8],
     bytes: &mut [u8],
@@ -77,7 +85,7 @@ pub fn put_file(
     if bytes.len() < n {
         return end;
     }
-    if write_file(number, name, &bytes[0..n]) {
+    if write_file(rt, number, name, &bytes[0..n]) {
         return text(out, at, b"ok\n");
     }
     text(out, at, b"error\n")

@@ -4,6 +4,7 @@ use crate::read::{Read, read_file};
 use crate::says::{complain, say_refused};
 use am9517::{Controller, Edition};
 use am9517_sheet::{Form, SheetAnswer, SheetRead};
+use console_files::open_read;
 
 // A byte more than a memory has: so an image that is too long is seen.
 type Image = [u8; 65537];
@@ -38,9 +39,9 @@ fn state_in(bytes: &[u8]) -> SheetRead {
     am9517_sheet::read(Form::One, fresh, bytes)
 }
 
-fn judge_state(c: Controller, image: &[u8], log: &[u8]) -> u8 {
+fn judge_state(rt: HostRuntime, c: Controller, image: &[u8], log: &[u8]) -> u8 {
     let mut memory: Image = [0u8; 65537];
-    let read = read_file(image, &mut memory, true);
+    let read = read_file(rt, image, &mut memory, true);
     let size = match read {
         Read::Bytes(n) => n,
         Read::Failed => return 2,
@@ -48,21 +49,20 @@ fn judge_state(c: Controller, image: &[u8], log: &[u8]) -> u8 {
     if memory.len() < size {
         return 2;
     }
-    let fd = os::open_read(log);
-    if fd < 0 {
-        complain(log);
-        return 2;
+    match open_read(rt, log) {
+        Ok(file) => judge_log(rt, c, &mut memory[0..size], &file, log),
+        Err(error) => {
+            complain(rt, log, error);
+            2
+        }
     }
-    let status = judge_log(c, &mut memory[0..size], fd, log);
-    libc::close(fd);
-    status
 }
 
 // The log in the file `log`, judged from the sheet in `sheet` and the memory in `image`: 0 where it is accepted, 1 where it is wrong, 2 where
-// it is refused, a file can't be read or the verdict can't be written. What is found is said.
-pub fn judge_files(sheet: &[u8], image: &[u8], log: &[u8]) -> u8 {
+// it is refused, a file can't be read or the verdict can't be written, 141 where its reader has gone. What is found is said.
+pub fn judge_files(rt: HostRuntime, sheet: &[u8], image: &[u8], log: &[u8]) -> u8 {
     let mut bytes: Sheet = [0u8; 65536];
-    let read = read_file(sheet, &mut bytes, false);
+    let read = read_file(rt, sheet, &mut bytes, false);
     let size = match read {
         Read::Bytes(n) => n,
         Read::Failed => return 2,
@@ -74,7 +74,7 @@ pub fn judge_files(sheet: &[u8], image: &[u8], log: &[u8]) -> u8 {
     let answer = state.answer;
     let n = number_of(answer);
     if n != 0 {
-        return say_refused(n);
+        return say_refused(rt, n);
     }
-    judge_state(state.controller, image, log)
+    judge_state(rt, state.controller, image, log)
 }

@@ -3,7 +3,9 @@ use crate::read::{Read, is_ended};
 use crate::says::{Silent, say_accepted, say_refused, say_wrong};
 use am9517::Controller;
 use am9517_service::{Reason, RunAnswer, run};
+use console_files::read_full;
 use logs::{Judged, Verdict, handed_back, judge};
+use std::fs::File;
 use std::num::wrapping_add_u64;
 
 // Whole records.
@@ -52,7 +54,13 @@ fn settled(now: Course, status: u8) -> Course {
 }
 
 // What was found of a part of the log.
-fn found_in(now: Course, judged: Judged, memory: &mut [u8], part: &[u8]) -> Course {
+fn found_in(
+    rt: HostRuntime,
+    now: Course,
+    judged: Judged,
+    memory: &mut [u8],
+    part: &[u8],
+) -> Course {
     let verdict = judged.verdict;
     let controller = judged.controller;
     match verdict {
@@ -67,47 +75,54 @@ fn found_in(now: Course, judged: Judged, memory: &mut [u8], part: &[u8]) -> Cour
             let claimed = handed_back(part, verdict);
             settled(
                 now,
-                say_wrong(controller, memory, claimed, place, error, silent),
+                say_wrong(rt, controller, memory, claimed, place, error, silent),
             )
         }
-        Verdict::Refused(n) => settled(now, say_refused(n)),
+        Verdict::Refused(n) => settled(now, say_refused(rt, n)),
     }
 }
 
 // A part of the log. Behind the end of the service any byte is wrong.
-fn take_part(now: Course, memory: &mut [u8], part: &[u8]) -> Course {
+fn take_part(rt: HostRuntime, now: Course, memory: &mut [u8], part: &[u8]) -> Course {
     let c = now.controller;
     if (0 < now.place) & (c.in_service == 0) {
-        return settled(now, say_wrong(c, memory, part, now.place, 0, Silent::Over));
+        return settled(
+            now,
+            say_wrong(rt, c, memory, part, now.place, 0, Silent::Over),
+        );
     }
     let judged = judge(c, memory, part);
-    found_in(now, judged, memory, part)
+    found_in(rt, now, judged, memory, part)
 }
 
 // The next part, whole but for the last: a part that a failed read cut short is not judged.
-fn read_part(fd: i32, log: &[u8], part: &mut [u8]) -> Read {
-    let n = io::read_full(fd, part);
+fn read_part(rt: HostRuntime, file: &File, log: &[u8], part: &mut [u8]) -> Read {
+    let n = read_full(file, part);
     if n == part.len() {
         return Read::Bytes(n);
     }
-    if is_ended(fd, log, b" went on behind its end\n") {
+    if is_ended(rt, file, log, b" went on behind its end\n") {
         return Read::Bytes(n);
     }
     Read::Failed
 }
 
-// The log to its end: the parts count down, from a number that no file uses up.
-pub(crate) fn judge_log(c: Controller, memory: &mut [u8], fd: i32, log: &[u8]) -> u8 {
+// The log to its end: the parts are counted, up to a number that no file has.
+pub(crate) fn judge_log(
+    rt: HostRuntime,
+    c: Controller,
+    memory: &mut [u8],
+    file: &File,
+    log: &[u8],
+) -> u8 {
     let mut part: Part = [0u8; 65536];
     // first of no bytes: none of its parts is refused then
-    let mut now = take_part(begun(c), memory, &part[0..0]);
-    let mut turns = u64::MAX;
-    while turns > 0 {
-        turns -= 1;
+    let mut now = take_part(rt, begun(c), memory, &part[0..0]);
+    for _ in 0..u64::MAX {
         if now.status != OPEN {
             return now.status;
         }
-        let n = match read_part(fd, log, &mut part) {
+        let n = match read_part(rt, file, log, &mut part) {
             Read::Bytes(n) => n,
             Read::Failed => return 2,
         };
@@ -116,9 +131,9 @@ pub(crate) fn judge_log(c: Controller, memory: &mut [u8], fd: i32, log: &[u8]) -
         }
         if n == 0 {
             let c = now.controller;
-            return say_accepted(now.place, c.in_service != 0);
+            return say_accepted(rt, now.place, c.in_service != 0);
         }
-        now = take_part(now, memory, &part[0..n]);
+        now = take_part(rt, now, memory, &part[0..n]);
     }
     2
 }

@@ -1,5 +1,8 @@
 // A file's bytes; one that can't be read is never taken for one that has ended.
 use crate::says::{complain, complain_of};
+use console_files::{open_read, read_full};
+use std::fs::File;
+use std::io::Read as _;
 
 #[derive(Clone, Copy)]
 pub(crate) enum Read {
@@ -8,28 +11,37 @@ pub(crate) enum Read {
 }
 
 // Whether an open file has ended; else what is wrong is said, of one that goes on these words.
-pub(crate) fn is_ended(fd: i32, name: &[u8], words: &[u8]) -> bool {
+pub(crate) fn is_ended(rt: HostRuntime, file: &File, name: &[u8], words: &[u8]) -> bool {
+    let mut input = file;
     let mut more = [0u8; 1];
-    let got = libc::read(fd, &mut more);
-    if got < 0 {
-        complain(name);
-        return false;
+    match input.read(&mut more) {
+        Ok(0) => true,
+        Ok(_) => {
+            complain_of(rt, name, words);
+            false
+        }
+        Err(error) => {
+            complain(rt, name, error);
+            false
+        }
     }
-    if got > 0 {
-        complain_of(name, words);
-        return false;
-    }
-    true
 }
 
 // A full array may be the front of a longer file: that is enough of a memory's image, whose length is then wrong.
-fn read_open(fd: i32, name: &[u8], bytes: &mut [u8], is_front_enough: bool) -> Read {
-    let n = io::read_full(fd, bytes);
+fn read_open(
+    rt: HostRuntime,
+    file: &File,
+    name: &[u8],
+    bytes: &mut [u8],
+    is_front_enough: bool,
+) -> Read {
+    let n = read_full(file, bytes);
     if (n == bytes.len()) & is_front_enough {
         return Read::Bytes(n);
     }
     if is_ended(
-        fd,
+        rt,
+        file,
         name,
         b" has more than 65536 bytes, so it is no sheet's file\n",
     ) {
@@ -38,13 +50,17 @@ fn read_open(fd: i32, name: &[u8], bytes: &mut [u8], is_front_enough: bool) -> R
     Read::Failed
 }
 
-pub(crate) fn read_file(name: &[u8], bytes: &mut [u8], is_front_enough: bool) -> Read {
-    let fd = os::open_read(name);
-    if fd < 0 {
-        complain(name);
-        return Read::Failed;
+pub(crate) fn read_file(
+    rt: HostRuntime,
+    name: &[u8],
+    bytes: &mut [u8],
+    is_front_enough: bool,
+) -> Read {
+    match open_read(rt, name) {
+        Ok(file) => read_open(rt, &file, name, bytes, is_front_enough),
+        Err(error) => {
+            complain(rt, name, error);
+            Read::Failed
+        }
     }
-    let read = read_open(fd, name, bytes, is_front_enough);
-    libc::close(fd);
-    read
 }

@@ -1,9 +1,10 @@
 // What is said of a log, in words; each answers the status that goes with it.
 use am9517::Controller;
+use console_files::{say, say_failed};
 use console_records::record_said;
 use console_text::page::{decimal, signed, text};
-use libc::{STDERR_FILENO, STDOUT_FILENO};
 use logs::{next_record, record_in};
+use std::io::{Error, ErrorKind, Print};
 use words::bits::is_set;
 
 // Why the rules make no transfer next; Not where they make one.
@@ -15,28 +16,36 @@ pub(crate) enum Silent {
     Cascade,
 }
 
+// The status of a program whose output nobody reads any more: a shell's for one that the broken pipe ended.
+pub const UNHEARD: u8 = 141;
+
 // A file that failed.
-pub(crate) fn complain(name: &[u8]) {
-    io::write_all(STDERR_FILENO, b"judge: ");
-    os::fail(name);
+pub(crate) fn complain(rt: HostRuntime, name: &[u8], error: Error) {
+    say(rt, b"judge: ");
+    say_failed(rt, name, error);
 }
 
-pub(crate) fn complain_of(name: &[u8], words: &[u8]) {
-    io::write_all(STDERR_FILENO, b"judge: ");
-    io::write_all(STDERR_FILENO, name);
-    io::write_all(STDERR_FILENO, words);
+pub(crate) fn complain_of(rt: HostRuntime, name: &[u8], words: &[u8]) {
+    say(rt, b"judge: ");
+    say(rt, name);
+    say(rt, words);
 }
 
 // The status; 2 where the words can't be written, for nobody has heard them.
-fn said(page: &[u8], n: usize, status: u8) -> u8 {
+fn said(rt: HostRuntime, page: &[u8], n: usize, status: u8) -> u8 {
     if page.len() < n {
         return 2;
     }
-    if io::write_all(STDOUT_FILENO, &page[0..n]) {
-        return status;
+    match rt.write_all(&page[0..n]) {
+        Ok(()) => status,
+        Err(error) => {
+            if error.kind() == ErrorKind::BrokenPipe {
+                return UNHEARD;
+            }
+            complain(rt, b"standard output", error);
+            2
+        }
     }
-    complain(b"standard output");
-    2
 }
 
 // What the numbers mean by which judging, or reading the sheet, is refused.
@@ -63,10 +72,10 @@ fn refused_said(n: u8, out: &mut [u8], at: usize) -> usize {
     text(out, next, b"\n")
 }
 
-pub(crate) fn say_refused(n: u8) -> u8 {
+pub(crate) fn say_refused(rt: HostRuntime, n: u8) -> u8 {
     let mut page = [0u8; 128];
     let end = refused_said(n, &mut page, 0);
-    said(&page, end, 2)
+    said(rt, &page, end, 2)
 }
 
 fn records_said(n: u64, out: &mut [u8], at: usize) -> usize {
@@ -86,10 +95,10 @@ fn accepted_said(bytes: u64, is_open: bool, out: &mut [u8], at: usize) -> usize 
     text(out, next, b"has ended\n")
 }
 
-pub(crate) fn say_accepted(bytes: u64, is_open: bool) -> u8 {
+pub(crate) fn say_accepted(rt: HostRuntime, bytes: u64, is_open: bool) -> u8 {
     let mut page = [0u8; 128];
     let end = accepted_said(bytes, is_open, &mut page, 0);
-    said(&page, end, 0)
+    said(rt, &page, end, 0)
 }
 
 fn place_said(place: u64, out: &mut [u8], at: usize) -> usize {
@@ -158,6 +167,7 @@ fn error_said(error: i32, out: &mut [u8], at: usize) -> usize {
 
 // A wrong record: what it claims, what the rules say, and its address error.
 pub(crate) fn say_wrong(
+    rt: HostRuntime,
     c: Controller,
     memory: &[u8],
     part: &[u8],
@@ -171,5 +181,5 @@ pub(crate) fn say_wrong(
     let next = text(&mut page, next, b"\n  the rules say: ");
     let next = rules_said(c, memory, part, silent, &mut page, next);
     let end = error_said(error, &mut page, next);
-    said(&page, end, 1)
+    said(rt, &page, end, 1)
 }

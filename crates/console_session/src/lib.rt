@@ -7,8 +7,7 @@ ghost use Rattle.console_commands.specs.Holding.{arrays, Done};
 ghost use Rattle.console_session.specs.Script.{answer_of, gathered, gather_from};
 
 use console_chip::answers::error;
-use console_commands::{Console, Executed};
-use console_lines::execute;
+use console_commands::{Console, Executed, execute};
 use console_text::line::{end_of, said};
 use console_text::page::byte;
 

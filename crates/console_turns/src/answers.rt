@@ -1,17 +1,18 @@
 // Answers held against those of a file.
 ghost use Rattle.std.specs.Prelude.{◌≤◌, length};
 
+use crate::host::Host;
+use console_files::{say, say_failed, say_number};
 use console_text::page::{decimal, text};
-use libc::STDERR_FILENO;
+use std::io::Read;
 use std::num::wrapping_add_u64;
 
 // No more of a line than this is shown before and behind the place where it differs.
 const SHOWN: usize = 200;
 
-// The file of the answers expected, what of the part read of it is still to come, the number of its line, and whether it can't be read.
+// Of the answers expected: what of the part read of their file is still to come, the number of its line, and whether it can't be read.
 #[derive(Clone, Copy)]
 pub struct Answers {
-    pub fd: i32,
     pub from: usize,
     pub filled: usize,
     pub number: u64,
@@ -26,19 +27,31 @@ pub(crate) struct Compared {
     pub is_same: bool,
 }
 
+// Reads the next part: how many bytes, none without a file; nothing where it can't be read, which is said.
+fn next_part(host: &Host, part: &mut [u8; 65536]) -> Option<usize> {
+    let Some(file) = &host.answers else {
+        return Some(0);
+    };
+    let mut input = file;
+    match input.read(part) {
+        Ok(n) => Some(n),
+        Err(error) => {
+            say_failed(host.rt, b"rack: the answers expected", error);
+            None
+        }
+    }
+}
+
 // There is a byte to come, unless the file has ended.
-fn ready(answers: Answers, part: &mut [u8; 65536]) -> Answers {
+fn ready(host: &Host, answers: Answers, part: &mut [u8; 65536]) -> Answers {
     if answers.from < answers.filled {
         return answers;
     }
-    let got = libc::read(answers.fd, part);
+    let got = next_part(host, part);
     let mut next = answers;
-    if got < 0 {
-        os::fail(b"rack: the answers expected");
-        next.is_failed = true;
-    }
+    next.is_failed = answers.is_failed | got.is_none();
     next.from = 0;
-    next.filled = io::count(got, part);
+    next.filled = got.unwrap_or(0);
     next
 }
 
@@ -73,12 +86,10 @@ fn behind(answers: Answers, b: u8) -> Answers {
 }
 
 // Comments stand in lines of their own, as those of traces do: they are no answers.
-fn behind_comments(answers: Answers, part: &mut [u8; 65536]) -> Answers {
-    let mut now = ready(answers, part);
+fn behind_comments(host: &Host, answers: Answers, part: &mut [u8; 65536]) -> Answers {
+    let mut now = ready(host, answers, part);
     let mut is_comment = next_byte(now, part) == wide(b'#');
-    let mut turns = u64::MAX;
-    while turns > 0 {
-        turns -= 1;
+    for _ in 0..u64::MAX {
         let b = next_byte(now, part);
         if !is_comment {
             return now;
@@ -86,7 +97,7 @@ fn behind_comments(answers: Answers, part: &mut [u8; 65536]) -> Answers {
         if 255 < b {
             return now;
         }
-        now = ready(behind(now, b as u8), part);
+        now = ready(host, behind(now, b as u8), part);
         if b == wide(b'\n') {
             is_comment = next_byte(now, part) == wide(b'#');
         }
@@ -94,11 +105,16 @@ fn behind_comments(answers: Answers, part: &mut [u8; 65536]) -> Answers {
     now
 }
 
-pub(crate) fn compare(answers: Answers, part: &mut [u8; 65536], answer: &[u8]) -> Compared {
-    let mut now = behind_comments(answers, part);
+pub(crate) fn compare(
+    host: &Host,
+    answers: Answers,
+    part: &mut [u8; 65536],
+    answer: &[u8],
+) -> Compared {
+    let mut now = behind_comments(host, answers, part);
     let mut i = 0;
     while i < answer.len() {
-        now = ready(now, part);
+        now = ready(host, now, part);
         let b = answer[i];
         if next_byte(now, part) != wide(b) {
             return Compared {
@@ -118,8 +134,8 @@ pub(crate) fn compare(answers: Answers, part: &mut [u8; 65536], answer: &[u8]) -
 }
 
 // Whether the file has no more answers.
-pub(crate) fn is_ended(answers: Answers, part: &mut [u8; 65536]) -> bool {
-    let now = behind_comments(answers, part);
+pub(crate) fn is_ended(host: &Host, answers: Answers, part: &mut [u8; 65536]) -> bool {
+    let now = behind_comments(host, answers, part);
     next_byte(now, part) == 256
 }
 
@@ -207,10 +223,10 @@ pub(crate) fn say_place(out: &mut [u8], at: usize, name: &[u8], number: u64) -> 
 }
 
 // The script has ended, and there are further answers.
-pub(crate) fn say_more(name: &[u8], number: u64) {
-    io::write_all(STDERR_FILENO, b"rack: the script ends, and ");
-    io::write_all(STDERR_FILENO, name);
-    io::write_all(STDERR_FILENO, b" goes on in line ");
-    io::print_decimal(STDERR_FILENO, number);
-    io::write_all(STDERR_FILENO, b"\n");
+pub(crate) fn say_more(rt: HostRuntime, name: &[u8], number: u64) {
+    say(rt, b"rack: the script ends, and ");
+    say(rt, name);
+    say(rt, b" goes on in line ");
+    say_number(rt, number);
+    say(rt, b"\n");
 }

@@ -1,12 +1,16 @@
 // The turns of the program `rack`: its script is read part by part, each line answered, and the answer told. Nothing is promised but
 // that this is safe and ends.
+#![tactic(auto)]
+
 mod answers;
+mod host;
 mod own;
 mod telling;
 mod tracing;
 mod turns;
 
 pub use answers::Answers;
+pub use host::{Host, Script};
 pub use own::leave_log;
 pub use telling::closed;
 pub use tracing::Trace;

@@ -1,4 +1,5 @@
 // Lines that are not the console's: to leave at, about traces, or with a file that failed.
+use crate::host::Host;
 use crate::tracing::Trace;
 use crate::turns::Turn;
 use console_files::{Task, close_log, open_log};
@@ -46,34 +47,36 @@ fn left_as_it_is(trace: Trace, is_well: bool, is_left: bool) -> Own {
 }
 
 // The records go to no file any more. One that could not be written is not whole.
-fn without_log(number: u64, trace: Trace) -> Own {
-    let is_well = close_log(number, trace.fd, trace.is_broken);
+fn without_log(host: &mut Host, number: u64, trace: Trace) -> Own {
+    let is_well = close_log(host.rt, number, host.log.take(), trace.is_broken);
     let mut next = trace;
-    next.fd = -1;
     next.is_broken = false;
     left_as_it_is(next, is_well, false)
 }
 
 // At the end: whether a log that is still open could be closed.
-pub fn leave_log(now: Turn) -> bool {
-    let trace = now.trace;
-    close_log(now.number, trace.fd, false)
+pub fn leave_log(host: &mut Host, now: Turn) -> bool {
+    close_log(host.rt, now.number, host.log.take(), false)
 }
 
 // They go to this file, which is empty then, and the one before it is closed; where it can't be opened, they go where they went.
-fn with_log(number: u64, trace: Trace, name: &[u8]) -> Own {
-    let fd = open_log(number, name);
-    if fd < 0 {
+fn with_log(host: &mut Host, number: u64, trace: Trace, name: &[u8]) -> Own {
+    let Some(file) = open_log(host.rt, number, name) else {
         return left_as_it_is(trace, false, false);
-    }
-    let closed = without_log(number, trace);
-    let mut next = trace;
-    next.fd = fd;
-    next.is_broken = false;
-    left_as_it_is(next, closed.is_well, false)
+    };
+    let closed = without_log(host, number, trace);
+    host.log = Some(file);
+    closed
 }
 
-pub(crate) fn carry_out(task: Task, number: u64, trace: Trace, notes: &[u8], name: usize) -> Own {
+pub(crate) fn carry_out(
+    host: &mut Host,
+    task: Task,
+    number: u64,
+    trace: Trace,
+    notes: &[u8],
+    name: usize,
+) -> Own {
     match task {
         Task::Console => left_as_it_is(trace, true, false),
         Task::Write => left_as_it_is(trace, true, false),
@@ -88,9 +91,9 @@ pub(crate) fn carry_out(task: Task, number: u64, trace: Trace, notes: &[u8], nam
             if notes.len() < name {
                 return left_as_it_is(trace, false, false);
             }
-            with_log(number, trace, &notes[0..name])
+            with_log(host, number, trace, &notes[0..name])
         }
-        Task::LogOff => without_log(number, trace),
+        Task::LogOff => without_log(host, number, trace),
     }
 }
 

@@ -1,45 +1,52 @@
 // An answer is told: written, explained where it is `error` or `refused`, and held against the one expected.
 use crate::answers::{compare, is_ended, say_difference, say_more, say_place};
-use crate::turns::{Done, Line, Notes, Out, Part, Spare, Turn, Way, complain};
+use crate::host::{Host, lose_output};
+use crate::turns::{Done, Line, Notes, Out, Part, Spare, Turn, Way};
 use console_commands::Console;
 use console_explain::{Held, explain};
+use console_files::say;
 use console_show::{help_refusals, help_rows};
 use console_text::line::{said, same};
 use console_text::page::{decimal, text};
-use libc::{STDERR_FILENO, STDOUT_FILENO};
+use std::io;
+use std::io::Print;
 
 // A longer line is an error.
 pub(crate) const LONGEST: usize = 200000;
 
 // Answers that are compared and not echoed are not written.
-pub(crate) fn write_out(way: Way, out: &[u8], waiting: usize) -> bool {
+pub(crate) fn write_out(rt: HostRuntime, way: Way, out: &[u8], waiting: usize) -> io::Result<()> {
     if way.is_comparing & !way.is_echoing {
-        return true;
+        return Ok(());
     }
     if out.len() < waiting {
-        return true;
+        return Ok(());
     }
-    io::write_all(STDOUT_FILENO, &out[0..waiting])
+    rt.write_all(&out[0..waiting])
 }
 
 // Writes the answers that wait, none of which waits after it; where that fails, nothing is left to be done.
-pub(crate) fn flush(way: Way, now: Turn, out: &Out) -> Turn {
+pub(crate) fn flush(host: &mut Host, way: Way, now: Turn, out: &Out) -> Turn {
     let mut next = now;
     next.waiting = 0;
-    if write_out(way, out, now.waiting) {
+    let Err(error) = write_out(host.rt, way, out, now.waiting) else {
         return next;
-    }
-    complain(b"standard output");
+    };
+    lose_output(host, error);
     next.is_more = false;
     next.is_failed = true;
     next
 }
 
-fn write_notes(notes: &[u8], n: usize) {
+// Where the reader of the answers has gone, there is nobody to read these.
+fn write_notes(host: &Host, notes: &[u8], n: usize) {
+    if host.is_unheard {
+        return;
+    }
     if notes.len() < n {
         return;
     }
-    io::write_all(STDERR_FILENO, &notes[0..n]);
+    say(host.rt, &notes[0..n]);
 }
 
 // Where in the script: its name, unless a person types it, and the line's number.
@@ -107,6 +114,7 @@ fn cause(
 
 // Says why, unless that is plain; the answers before it are written first.
 fn explained(
+    host: &mut Host,
     way: Way,
     name: &[u8],
     now: Turn,
@@ -117,18 +125,19 @@ fn explained(
     out: &Out,
     notes: &mut Notes,
 ) -> Turn {
-    let next = flush(way, now, out);
+    let next = flush(host, way, now, out);
     let console = now.console;
     let from = place(way.is_asking, name, now.number, notes);
     let to = cause(console, line, done.length, answer, spare, notes, from);
     if from < to {
-        write_notes(notes, to);
+        write_notes(host, notes, to);
     }
     next
 }
 
 // The answer must be the one expected.
 fn compared(
+    host: &Host,
     way: Way,
     name: &[u8],
     expected: &[u8],
@@ -138,7 +147,7 @@ fn compared(
     wanted: &mut Part,
 ) -> Turn {
     let answers = now.answers;
-    let done = compare(answers, wanted, answer);
+    let done = compare(host, answers, wanted, answer);
     let left = done.answers;
     let mut next = now;
     next.answers = left;
@@ -148,7 +157,7 @@ fn compared(
     let at = place(way.is_asking, name, now.number, notes);
     let at = say_place(notes, at, expected, left.number);
     let at = say_difference(notes, at, left, wanted, answer, done.same);
-    write_notes(notes, at);
+    write_notes(host, notes, at);
     next.is_more = false;
     next.is_failed = true;
     next
@@ -163,6 +172,7 @@ fn is_refused(answer: &[u8]) -> bool {
 
 // An answer of one line at least.
 fn tell_answer(
+    host: &mut Host,
     way: Way,
     name: &[u8],
     expected: &[u8],
@@ -178,7 +188,7 @@ fn tell_answer(
     let is_error = same(answer, b"error\n");
     let mut next = now;
     if way.is_comparing {
-        next = compared(way, name, expected, now, answer, notes, wanted);
+        next = compared(host, way, name, expected, now, answer, notes, wanted);
     } else if is_error & !way.is_asking {
         next.is_failed = true;
     }
@@ -187,12 +197,13 @@ fn tell_answer(
         return next;
     }
     if is_error | is_refused(answer) {
-        return explained(way, name, next, done, line, spare, answer, out, notes);
+        return explained(host, way, name, next, done, line, spare, answer, out, notes);
     }
     next
 }
 
 pub(crate) fn tell(
+    host: &mut Host,
     way: Way,
     name: &[u8],
     expected: &[u8],
@@ -223,6 +234,7 @@ pub(crate) fn tell(
         return next;
     }
     tell_answer(
+        host,
         way,
         name,
         expected,
@@ -238,14 +250,14 @@ pub(crate) fn tell(
 }
 
 // The script has ended: so must have the answers expected.
-pub fn closed(now: Turn, expected: &[u8], wanted: &mut Part) -> bool {
+pub fn closed(host: &Host, now: Turn, expected: &[u8], wanted: &mut Part) -> bool {
     let answers = now.answers;
-    if is_ended(answers, wanted) {
-        io::write_all(STDERR_FILENO, b"rack: all answers as in ");
-        io::write_all(STDERR_FILENO, expected);
-        io::write_all(STDERR_FILENO, b"\n");
+    if is_ended(host, answers, wanted) {
+        say(host.rt, b"rack: all answers as in ");
+        say(host.rt, expected);
+        say(host.rt, b"\n");
         return true;
     }
-    say_more(expected, answers.number);
+    say_more(host.rt, expected, answers.number);
     false
 }

@@ -1,20 +1,22 @@
 // A run or a round is traced before it is carried out, where that is asked for: each transfer as a line, and as a record in a file.
+use crate::host::{Host, lose_output};
 use crate::telling::{LONGEST, write_out};
-use crate::turns::{Line, Memory, Out, Queue, Spare, Way, complain, is_cut};
+use crate::turns::{Line, Memory, Out, Queue, Spare, Way, is_cut};
 use console_commands::Console;
 use console_files::break_log;
 use console_text::line::{end_of, said};
 use console_text::page::text;
 use console_trace::{Course, Traced, begun, go_on};
+use std::io;
+use std::io::Write;
 
 type Records = [u8; 4096];
 
-// Whether lines are shown; the file of the records, -1 for none; whether that could not be written, and is not whole; whether anything could
-// not be written, and whether that were lines.
-#[derive(Drop)]
+// Whether lines are shown; whether the file of the records could not be written, and is not whole; whether anything could not be written,
+// and whether that were lines.
+#[derive(Clone, Copy)]
 pub struct Trace {
     pub is_on: bool,
-    pub fd: i32,
     pub is_broken: bool,
     pub is_failed: bool,
     pub is_cut: bool,
@@ -30,34 +32,45 @@ pub(crate) struct Shown {
 // So many bytes of lines may wait before more are made.
 const WAITING: usize = 160000;
 
+// Nothing is written where no file is open.
+fn write_records(host: &Host, records: &[u8]) -> io::Result<()> {
+    let Some(file) = &host.log else {
+        return Ok(());
+    };
+    let mut output = file;
+    output.write_all(records)
+}
+
 // A file that can't be written is left alone from then on.
-fn keep_records(trace: Trace, number: u64, records: &[u8], filled: usize) -> Trace {
-    if trace.fd < 0 {
-        return trace;
-    }
+fn keep_records(
+    host: &mut Host,
+    trace: Trace,
+    number: u64,
+    records: &[u8],
+    filled: usize,
+) -> Trace {
     if records.len() < filled {
         return trace;
     }
-    if io::write_all(trace.fd, &records[0..filled]) {
+    let Err(error) = write_records(host, &records[0..filled]) else {
         return trace;
-    }
-    break_log(number, trace.fd);
+    };
+    break_log(host.rt, number, host.log.take(), error);
     let mut next = trace;
-    next.fd = -1;
     next.is_broken = true;
     next.is_failed = true;
     next
 }
 
 // Lines that have come to be many are written, so that they can be read while more are made. Where they can't be, none is made any more.
-fn make_place(way: Way, now: Shown, out: &Out) -> Shown {
+fn make_place(host: &mut Host, way: Way, now: Shown, out: &Out) -> Shown {
     if now.at <= WAITING {
         return now;
     }
     let mut next = now;
     next.at = 0;
-    if !write_out(way, out, now.at) {
-        complain(b"standard output");
+    if let Err(error) = write_out(host.rt, way, out, now.at) {
+        lose_output(host, error);
         next.trace.is_on = false;
         next.trace.is_failed = true;
         next.trace.is_cut = true;
@@ -66,25 +79,34 @@ fn make_place(way: Way, now: Shown, out: &Out) -> Shown {
 }
 
 // Whether anything is to be made of a transfer.
-fn is_wanted(trace: Trace) -> bool {
-    trace.is_on | (0 <= trace.fd)
+fn is_wanted(host: &Host, trace: Trace) -> bool {
+    trace.is_on | host.log.is_some()
 }
 
-fn is_going(course: Course, trace: Trace) -> bool {
-    course.is_more & is_wanted(trace)
+fn is_going(host: &Host, course: Course, trace: Trace) -> bool {
+    course.is_more & is_wanted(host, trace)
 }
 
 // What was made goes to the file and, where it has come to be much, out.
-fn put_away(way: Way, number: u64, trace: Trace, done: Traced, records: &[u8], out: &Out) -> Shown {
+fn put_away(
+    host: &mut Host,
+    way: Way,
+    number: u64,
+    trace: Trace,
+    done: Traced,
+    records: &[u8],
+    out: &Out,
+) -> Shown {
     let now = Shown {
-        trace: keep_records(trace, number, records, done.filled),
+        trace: keep_records(host, trace, number, records, done.filled),
         at: done.at,
     };
-    make_place(way, now, out)
+    make_place(host, way, now, out)
 }
 
-// All transfers: the turns count down, from a number that no round uses up.
+// All transfers: the turns are counted, up to a number that no round has.
 fn show(
+    host: &mut Host,
     way: Way,
     number: u64,
     course: Course,
@@ -97,16 +119,14 @@ fn show(
 ) -> Shown {
     let mut now = Shown { trace, at };
     let mut course = course;
-    let mut turns = u64::MAX;
-    while turns > 0 {
-        turns -= 1;
+    for _ in 0..u64::MAX {
         let trace = now.trace;
-        if !is_going(course, trace) {
+        if !is_going(host, course, trace) {
             return now;
         }
         let done = go_on(course, trace.is_on, spare, device, records, out, now.at);
         course = done.course;
-        now = put_away(way, number, trace, done, records, out);
+        now = put_away(host, way, number, trace, done, records, out);
     }
     now
 }
@@ -148,6 +168,7 @@ fn course_of(
 
 // A line with this number.
 pub(crate) fn traced(
+    host: &mut Host,
     way: Way,
     number: u64,
     trace: Trace,
@@ -160,7 +181,7 @@ pub(crate) fn traced(
     out: &mut Out,
     at: usize,
 ) -> Shown {
-    if !is_wanted(trace) {
+    if !is_wanted(host, trace) {
         return Shown { trace, at };
     }
     let course = course_of(way, console, line, length, memory, spare);
@@ -175,6 +196,7 @@ pub(crate) fn traced(
     }
     let mut records: Records = [0u8; 4096];
     show(
+        host,
         way,
         number,
         course,

@@ -2,15 +2,16 @@
 ghost use Rattle.std.specs.Prelude.{◌≤◌, length};
 
 use crate::answers::Answers;
+use crate::host::{Host, read_script};
 use crate::own::{carry_out, is_own, own_said, writes};
 use crate::telling::{flush, tell};
 use crate::tracing::{Shown, Trace, traced};
 use console_commands::{Console, Executed};
-use console_files::{Plan, Task, prepare, put_file};
+use console_files::{Plan, Task, prepare, put_file, say, say_failed};
 use console_session::{Reached, gather};
 use console_text::line::said;
 use console_text::page::text;
-use libc::{STDERR_FILENO, STDOUT_FILENO};
+use std::io::{Error, Print};
 use std::num::wrapping_add_u64;
 
 pub type Part = [u8; 65536];
@@ -36,10 +37,9 @@ const WAITING: usize = 160000;
 // A terminal gives no longer line: what is beyond it is lost.
 const TERMINAL: usize = 4095;
 
-// Where the script is read, whether it is typed at a terminal, and how its answers are told.
+// Whether the script is typed at a terminal, and how its answers are told.
 #[derive(Clone, Copy)]
 pub struct Way {
-    pub fd: i32,
     pub is_typed: bool,
     pub is_asking: bool,
     pub is_explaining: bool,
@@ -81,16 +81,15 @@ pub(crate) struct Done {
 }
 
 // Says in words why a call on this thing failed.
-pub fn complain(what: &[u8]) {
-    io::write_all(STDERR_FILENO, b"rack: ");
-    os::fail(what);
+pub fn complain(rt: HostRuntime, what: &[u8], error: Error) {
+    say(rt, b"rack: ");
+    say_failed(rt, what, error);
 }
 
-// Nothing read yet; the file of the answers expected, -1 for none.
-pub fn first_turn(answers: i32) -> Turn {
+// Nothing read yet.
+pub fn first_turn() -> Turn {
     let console = Console::fresh();
     let wanted = Answers {
-        fd: answers,
         from: 0,
         filled: 0,
         number: 1,
@@ -98,7 +97,6 @@ pub fn first_turn(answers: i32) -> Turn {
     };
     let trace = Trace {
         is_on: false,
-        fd: -1,
         is_broken: false,
         is_failed: false,
         is_cut: false,
@@ -126,9 +124,9 @@ fn failed(now: Turn) -> Turn {
 }
 
 // A person is asked for the next line, unless one is under way.
-fn ask(is_asking: bool, length: usize) {
+fn ask(rt: HostRuntime, is_asking: bool, length: usize) {
     if is_asking & (length == 0) {
-        io::write_all(STDOUT_FILENO, b"> ");
+        let _ = rt.write_all(b"> ");
     }
 }
 
@@ -140,33 +138,33 @@ fn holding(now: Turn, filled: usize) -> Turn {
 }
 
 // Reads once. Behind the script's end stands a newline, for the last line may lack its own.
-fn read_more(way: Way, name: &[u8], now: Turn, part: &mut Part) -> Turn {
-    let got = libc::read(way.fd, part);
-    if got < 0 {
-        complain(name);
-        return failed(now);
+fn read_more(host: &Host, name: &[u8], now: Turn, part: &mut Part) -> Turn {
+    match read_script(&host.script, part) {
+        Ok(0) => {
+            part[0] = b'\n';
+            let mut last = holding(now, 1);
+            last.is_ending = true;
+            last
+        }
+        Ok(n) => holding(now, n),
+        Err(error) => {
+            complain(host.rt, name, error);
+            failed(now)
+        }
     }
-    if got == 0 {
-        part[0] = b'\n';
-        let mut last = holding(now, 1);
-        last.is_ending = true;
-        return last;
-    }
-    let n = io::count(got, part);
-    holding(now, n)
 }
 
 // All that was read is taken: the answers are written, so that a person sees them, and more is read.
-fn refill(way: Way, name: &[u8], now: Turn, part: &mut Part, out: &Out) -> Turn {
-    let mut flushed = flush(way, now, out);
+fn refill(host: &mut Host, way: Way, name: &[u8], now: Turn, part: &mut Part, out: &Out) -> Turn {
+    let mut flushed = flush(host, way, now, out);
     if flushed.is_ending {
         flushed.is_more = false;
     }
     if !flushed.is_more {
         return flushed;
     }
-    ask(way.is_asking, flushed.length);
-    read_more(way, name, flushed, part)
+    ask(host.rt, way.is_asking, flushed.length);
+    read_more(host, name, flushed, part)
 }
 
 fn gathered(line: &mut Line, length: usize, part: &Part, from: usize, filled: usize) -> Reached {
@@ -184,6 +182,7 @@ pub(crate) fn is_cut(way: Way, length: usize) -> bool {
 
 // Such a line is not done.
 fn plan_of(
+    rt: HostRuntime,
     is_cut: bool,
     number: u64,
     line: &mut [u8],
@@ -192,8 +191,8 @@ fn plan_of(
     notes: &mut [u8],
 ) -> Plan {
     if is_cut {
-        io::write_all(
-            STDERR_FILENO,
+        say(
+            rt,
             b"rack: a terminal cuts a line at 4095 characters: give longer ones in a file\n",
         );
         let task = Task::Failed;
@@ -204,7 +203,7 @@ fn plan_of(
             name: 0,
         };
     }
-    prepare(number, line, length, spare, notes)
+    prepare(rt, number, line, length, spare, notes)
 }
 
 // The length of a line without blanks at its end.
@@ -238,6 +237,7 @@ fn echo(is_echoing: bool, line: &[u8], length: usize, out: &mut [u8], at: usize)
 
 // What the console answered, or whether its bytes went to a file.
 fn put_where(
+    rt: HostRuntime,
     is_file: bool,
     number: u64,
     notes: &[u8],
@@ -253,7 +253,7 @@ fn put_where(
     if notes.len() < name {
         return end;
     }
-    put_file(number, &notes[0..name], spare, out, start, end)
+    put_file(rt, number, &notes[0..name], spare, out, start, end)
 }
 
 // The console's answer to the line in its array.
@@ -286,6 +286,7 @@ fn ask_console(
 
 // A line that is not the console's is carried out.
 fn answer_own(
+    host: &mut Host,
     console: Console,
     trace: Trace,
     number: u64,
@@ -297,7 +298,7 @@ fn answer_own(
     notes: &[u8],
 ) -> Done {
     let task = planned.task;
-    let own = carry_out(task, number, trace, notes, planned.name);
+    let own = carry_out(host, task, number, trace, notes, planned.name);
     let next = own.trace;
     Done {
         console,
@@ -314,6 +315,7 @@ fn answer_own(
 
 // The line in its array is answered.
 fn answer(
+    host: &mut Host,
     way: Way,
     number: u64,
     console: Console,
@@ -330,11 +332,19 @@ fn answer(
     let trace = shown.trace;
     let before = shown.at;
     let start = echo(way.is_echoing, line, length, out, before);
-    let planned = plan_of(is_cut(way, length), number, line, length, spare, notes);
+    let planned = plan_of(
+        host.rt,
+        is_cut(way, length),
+        number,
+        line,
+        length,
+        spare,
+        notes,
+    );
     let task = planned.task;
     if is_own(task) {
         return answer_own(
-            console, trace, number, planned, length, before, start, out, notes,
+            host, console, trace, number, planned, length, before, start, out, notes,
         );
     }
     let done = ask_console(
@@ -350,6 +360,7 @@ fn answer(
     );
     let next = done.console;
     let end = put_where(
+        host.rt,
         writes(task),
         number,
         notes,
@@ -387,6 +398,7 @@ fn is_plain(is_comparing: bool, out: &[u8], start: usize, end: usize) -> bool {
 // Takes what is left of the part read, line by line, up to one of which there is something to tell: in a loop here, for a turn is
 // dear to hand on.
 fn take(
+    host: &mut Host,
     way: Way,
     name: &[u8],
     expected: &[u8],
@@ -417,6 +429,7 @@ fn take(
         let console = next.console;
         let trace = next.trace;
         let shown = traced(
+            host,
             way,
             next.number,
             trace,
@@ -430,6 +443,7 @@ fn take(
             next.waiting,
         );
         let done = answer(
+            host,
             way,
             next.number,
             console,
@@ -445,7 +459,7 @@ fn take(
         );
         if !is_plain(way.is_comparing, out, done.start, done.end) {
             return tell(
-                way, name, expected, next, done, line, spare, out, notes, wanted,
+                host, way, name, expected, next, done, line, spare, out, notes, wanted,
             );
         }
         let held = done.console;
@@ -475,6 +489,7 @@ fn with_failures(now: Turn) -> Turn {
 
 // One turn: more is read, or lines are taken.
 pub fn step(
+    host: &mut Host,
     way: Way,
     name: &[u8],
     expected: &[u8],
@@ -490,17 +505,17 @@ pub fn step(
     wanted: &mut Part,
 ) -> Turn {
     if now.filled <= now.from {
-        return refill(way, name, now, part, out);
+        return refill(host, way, name, now, part, out);
     }
     if WAITING < now.waiting {
-        return flush(way, now, out);
+        return flush(host, way, now, out);
     }
     let taken = take(
-        way, name, expected, now, part, line, memory, queue, room, spare, out, notes, wanted,
+        host, way, name, expected, now, part, line, memory, queue, room, spare, out, notes, wanted,
     );
     let next = with_failures(taken);
     if next.is_more {
         return next;
     }
-    flush(way, next, out)
+    flush(host, way, next, out)
 }

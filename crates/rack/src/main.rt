@@ -1,32 +1,35 @@
 // Reads a script from standard input, or from the file that the argument names, and tells the console's answers.
+#![tactic(auto)]
+
 mod options;
 
-use console_judge::judge_files;
-use console_turns::{Turn, Way, closed, complain, first_turn, leave_log, step};
-use libc::{STDIN_FILENO, STDOUT_FILENO};
+use console_files::open_read;
+use console_judge::{UNHEARD, judge_files};
+use console_turns::{Host, Script, Turn, Way, closed, complain, first_turn, leave_log, step};
 use options::{
-    Asked, Options, complain_of, complain_of_unknown, judge_at, read_options, say_help, say_version,
+    Asked, Options, argument, argument_count, complain_of, complain_of_unknown, judge_at,
+    read_options, say_help, say_version,
 };
-
-// Where the script that starts the program waits for its status: a program of this language has none of its own.
-const REPORT: i32 = 3;
+use std::fs::File;
+use std::io::{IsTerminal, Print};
+use std::process::ExitCode;
 
 // The script has ended: whether all went well.
-fn ended(way: Way, expected: &[u8], now: Turn, wanted: &mut [u8; 65536]) -> bool {
+fn ended(host: &mut Host, way: Way, expected: &[u8], now: Turn, wanted: &mut [u8; 65536]) -> bool {
     // behind the last prompt
     if way.is_asking & now.is_ending {
-        io::write_all(STDOUT_FILENO, b"\n");
+        let _ = host.rt.write_all(b"\n");
     }
-    let is_well = leave_log(now) & !now.is_failed;
+    let is_well = leave_log(host, now) & !now.is_failed;
     if !(is_well & way.is_comparing) {
         return is_well;
     }
-    closed(now, expected, wanted)
+    closed(host, now, expected, wanted)
 }
 
-// Runs the script to its end, and tells whether all went well. A proved loop has to end, and nothing says that a file does:
-// the turns count down, from a number that no run uses up.
-fn run(way: Way, name: &[u8], expected: &[u8], answers: i32) -> bool {
+// Runs the script to its end, and gives the status. A proved loop has to end, and nothing says that a file does: the turns are counted,
+// up to a number that no run has.
+fn run(mut host: Host, way: Way, name: &[u8], expected: &[u8]) -> u8 {
     let mut part = [0u8; 65536];
     let mut line = [0u8; 200002];
     let mut memory = [0u8; 65537];
@@ -36,14 +39,13 @@ fn run(way: Way, name: &[u8], expected: &[u8], answers: i32) -> bool {
     let mut out = [0u8; 524288];
     let mut notes = [0u8; 4096];
     let mut wanted = [0u8; 65536];
-    let mut now = first_turn(answers);
-    let mut turns = u64::MAX;
-    while turns > 0 {
-        turns -= 1;
+    let mut now = first_turn();
+    for _ in 0..u64::MAX {
         if !now.is_more {
             break;
         }
         now = step(
+            &mut host,
             way,
             name,
             expected,
@@ -59,17 +61,27 @@ fn run(way: Way, name: &[u8], expected: &[u8], answers: i32) -> bool {
             &mut wanted,
         );
     }
-    ended(way, expected, now, &mut wanted)
+    let is_well = ended(&mut host, way, expected, now, &mut wanted);
+    status_behind(&host, is_well)
 }
 
-fn is_terminal() -> bool {
-    (libc::isatty(STDIN_FILENO) == 1) & (libc::isatty(STDOUT_FILENO) == 1)
+fn status_behind(host: &Host, is_well: bool) -> u8 {
+    if host.is_unheard {
+        return UNHEARD;
+    }
+    if is_well {
+        return 0;
+    }
+    1
 }
 
-fn way_of(options: Options, fd: i32, is_asking: bool) -> Way {
+fn is_terminal(rt: HostRuntime) -> bool {
+    rt.stdin().is_terminal() & rt.stdout().is_terminal()
+}
+
+fn way_of(options: Options, is_typed: bool, is_asking: bool) -> Way {
     Way {
-        fd,
-        is_typed: libc::isatty(fd) == 1,
+        is_typed,
         is_asking,
         is_explaining: options.is_explaining | is_asking,
         is_echoing: options.is_echoing & !is_asking,
@@ -77,126 +89,131 @@ fn way_of(options: Options, fd: i32, is_asking: bool) -> Way {
     }
 }
 
+fn host_of(rt: HostRuntime, script: Script, answers: Option<File>) -> Host {
+    Host {
+        rt,
+        script,
+        answers,
+        log: None,
+        is_unheard: false,
+    }
+}
+
 // A person is asked for each line.
-fn converse(options: Options) -> bool {
-    io::write_all(
-        STDOUT_FILENO,
+fn converse(rt: HostRuntime, options: Options) -> u8 {
+    let _ = rt.write_all(
         b"Am9517A rack console: 'help' lists the commands, quit or end of input (Ctrl-D) leaves.\n",
     );
-    let way = way_of(options, STDIN_FILENO, true);
-    run(way, b"standard input", b"", -1)
+    let way = way_of(options, true, true);
+    let host = host_of(rt, Script::Input(rt.stdin()), None);
+    run(host, way, b"standard input", b"")
 }
 
-fn run_script(options: Options, expected: &[u8], answers: i32) -> bool {
+fn run_script(rt: HostRuntime, options: Options, expected: &[u8], answers: Option<File>) -> u8 {
     if options.script == 0 {
-        let way = way_of(options, STDIN_FILENO, false);
-        return run(way, b"standard input", expected, answers);
+        let way = way_of(options, rt.stdin().is_terminal(), false);
+        let host = host_of(rt, Script::Input(rt.stdin()), answers);
+        return run(host, way, b"standard input", expected);
     }
-    let mut space = io::buffer();
-    let n = os::arg(options.script, &mut space);
-    let fd = os::open_read(&space[..n]);
-    if fd < 0 {
-        complain(&space[..n]);
-        return false;
-    }
-    let way = way_of(options, fd, false);
-    let is_well = run(way, &space[..n], expected, answers);
-    libc::close(fd);
-    is_well
+    let mut space = [0u8; 4096];
+    let n = argument(rt, options.script, &mut space);
+    let file = match open_read(rt, &space[..n]) {
+        Ok(file) => file,
+        Err(error) => {
+            complain(rt, &space[..n], error);
+            return 1;
+        }
+    };
+    let way = way_of(options, file.is_terminal(), false);
+    let host = host_of(rt, Script::File(file), answers);
+    run(host, way, &space[..n], expected)
 }
 
-fn run_compared(options: Options) -> bool {
-    let mut space = io::buffer();
-    let n = os::arg(options.answers, &mut space);
-    let fd = os::open_read(&space[..n]);
-    if fd < 0 {
-        complain(&space[..n]);
-        return false;
-    }
-    let is_well = run_script(options, &space[..n], fd);
-    libc::close(fd);
-    is_well
-}
-
-fn run_as_asked(options: Options) -> bool {
-    if options.answers != 0 {
-        return run_compared(options);
-    }
-    if (options.script == 0) & is_terminal() {
-        return converse(options);
-    }
-    run_script(options, b"", -1)
-}
-
-// The status: 0 where all went well, 1 where something failed, 2 where the arguments are wrong.
-fn status_of(options: Options) -> u8 {
-    let asked = options.asked;
-    match asked {
-        Asked::Run => {
-            if run_as_asked(options) {
-                return 0;
-            }
+fn run_compared(rt: HostRuntime, options: Options) -> u8 {
+    let mut space = [0u8; 4096];
+    let n = argument(rt, options.answers, &mut space);
+    match open_read(rt, &space[..n]) {
+        Ok(file) => run_script(rt, options, &space[..n], Some(file)),
+        Err(error) => {
+            complain(rt, &space[..n], error);
             1
         }
-        Asked::Help => {
-            say_help();
-            0
-        }
-        Asked::Version => {
-            say_version();
-            0
-        }
+    }
+}
+
+fn run_as_asked(rt: HostRuntime, options: Options) -> u8 {
+    if options.answers != 0 {
+        return run_compared(rt, options);
+    }
+    if (options.script == 0) & is_terminal(rt) {
+        return converse(rt, options);
+    }
+    run_script(rt, options, b"", None)
+}
+
+// The status: 0 where all went well, 1 where something failed, 2 where the arguments are wrong, 141 where the reader of the output has gone.
+fn status_of(rt: HostRuntime, options: Options) -> u8 {
+    match options.asked {
+        Asked::Run => run_as_asked(rt, options),
+        Asked::Help => say_help(rt),
+        Asked::Version => say_version(rt),
         Asked::Unknown(i) => {
-            complain_of_unknown(i);
+            complain_of_unknown(rt, i);
             2
         }
         Asked::TwoFiles => {
-            complain_of(b"one file at most");
+            complain_of(rt, b"one file at most");
             2
         }
         Asked::NoAnswers => {
-            complain_of(b"behind --expect stands a file of answers");
+            complain_of(rt, b"behind --expect stands a file of answers");
             2
         }
     }
 }
 
 // The log that is named behind --judge, at this place among the arguments.
-fn judge_named(at: usize) -> u8 {
+fn judge_named(rt: HostRuntime, at: usize) -> u8 {
     // it stands first or second
     if 2 < at {
         return 2;
     }
-    if os::arg_count() != at + 4 {
-        complain_of(b"behind --judge stand the files of a sheet, a memory and a log");
+    if argument_count(rt) != at + 4 {
+        complain_of(
+            rt,
+            b"behind --judge stand the files of a sheet, a memory and a log",
+        );
         return 2;
     }
-    let mut sheet = io::buffer();
-    let mut image = io::buffer();
-    let mut log = io::buffer();
-    let n = os::arg(at + 1, &mut sheet);
-    let m = os::arg(at + 2, &mut image);
-    let k = os::arg(at + 3, &mut log);
-    judge_files(&sheet[..n], &image[..m], &log[..k])
+    let mut sheet = [0u8; 4096];
+    let mut image = [0u8; 4096];
+    let mut log = [0u8; 4096];
+    let n = argument(rt, at + 1, &mut sheet);
+    let m = argument(rt, at + 2, &mut image);
+    let k = argument(rt, at + 3, &mut log);
+    judge_files(rt, &sheet[..n], &image[..m], &log[..k])
 }
 
-// The status of judging is told to a script that stands behind it.
-fn judge_and_report(at: usize) {
-    let status = judge_named(at);
-    if at == 2 {
-        io::print_decimal(REPORT, status as u64);
+// The status is told to a script that asked for it by --report; without one a program that ran has none but that of an output that
+// nobody reads any more.
+fn reported(status: u8, is_reporting: bool) -> ExitCode {
+    if is_reporting | (status == UNHEARD) {
+        return ExitCode::from(status);
     }
+    ExitCode::SUCCESS
 }
 
-fn main() {
-    let at = judge_at();
+fn judge_and_report(rt: HostRuntime, at: usize) -> ExitCode {
+    let status = judge_named(rt, at);
+    reported(status, at == 2)
+}
+
+fn main(rt: HostRuntime) -> ExitCode {
+    let at = judge_at(rt);
     if at != 0 {
-        judge_and_report(at);
-        return;
+        return judge_and_report(rt, at);
     }
-    let options = read_options();
-    let status = status_of(options);
-    if options.is_reporting {
-        io::print_decimal(REPORT, status as u64);
-    }
+    let options = read_options(rt);
+    let status = status_of(rt, options);
+    reported(status, options.is_reporting)
 }

@@ -1,6 +1,14 @@
 // The program's arguments.
+ghost use Rattle.std.specs.Prelude.{◌≤◌};
+
+use console_files::say;
+use console_judge::UNHEARD;
 use console_text::line::same;
-use libc::{STDERR_FILENO, STDOUT_FILENO};
+use std::env::{Env, FillError};
+use std::io::{ErrorKind, Print};
+
+// Room for an argument: one that is longer is taken for an empty one.
+pub(crate) type Argument = [u8; 4096];
 
 #[derive(Clone, Copy)]
 pub(crate) enum Asked {
@@ -74,7 +82,7 @@ fn with_option(options: Options, word: &[u8], i: usize) -> Options {
         next.is_echoing = true;
         return next;
     }
-    // for the script that starts the program: its status is written to descriptor 3
+    // for the script that starts the program: it waits for a status
     if same(word, b"--report") {
         next.is_reporting = true;
         return next;
@@ -100,49 +108,64 @@ fn with_word(options: Options, word: &[u8], i: usize) -> Options {
     with_script(options, i, false)
 }
 
-fn is_word(i: usize, word: &[u8]) -> bool {
-    let mut space = io::buffer();
-    let n = os::arg(i, &mut space);
+// Puts the argument at the front of its array; its length, 0 where there is none.
+pub(crate) fn argument(rt: HostRuntime, i: usize, space: &mut Argument) -> usize
+    ensures { result ≤ 4096 }
+{
+    rt.arg(i, space).unwrap_or(0)
+}
+
+// How many there are, with the program's name.
+pub(crate) fn argument_count(rt: HostRuntime) -> usize {
+    let mut space = [0u8; 4096];
+    for i in 0..usize::MAX {
+        if let Err(FillError::NotPresent) = rt.arg(i, &mut space) {
+            return i;
+        }
+    }
+    usize::MAX
+}
+
+fn is_word(rt: HostRuntime, i: usize, word: &[u8]) -> bool {
+    let mut space = [0u8; 4096];
+    let n = argument(rt, i, &mut space);
     same(&space[..n], word)
 }
 
-fn is_expect(i: usize) -> bool {
-    is_word(i, b"--expect")
+fn is_expect(rt: HostRuntime, i: usize) -> bool {
+    is_word(rt, i, b"--expect")
 }
 
 // Where --judge stands, which is first or behind --report; 0 for nowhere.
-pub(crate) fn judge_at() -> usize {
-    if is_word(1, b"--judge") {
+pub(crate) fn judge_at(rt: HostRuntime) -> usize {
+    if is_word(rt, 1, b"--judge") {
         return 1;
     }
-    if is_word(1, b"--report") & is_word(2, b"--judge") {
+    if is_word(rt, 1, b"--report") & is_word(rt, 2, b"--judge") {
         return 2;
     }
     0
 }
 
-fn with_argument(options: Options, i: usize) -> Options {
-    let mut space = io::buffer();
-    let n = os::arg(i, &mut space);
+fn with_argument(rt: HostRuntime, options: Options, i: usize) -> Options {
+    let mut space = [0u8; 4096];
+    let n = argument(rt, i, &mut space);
     with_word(options, &space[..n], i)
 }
 
 // The arguments one by one; behind --expect stands the name of the answers.
-pub(crate) fn read_options() -> Options {
-    let count = os::arg_count();
+pub(crate) fn read_options(rt: HostRuntime) -> Options {
     let mut options = start();
     let mut is_name = false;
-    let mut i = 1;
-    while i < count {
+    for i in 1..argument_count(rt) {
         if is_name {
             options.answers = i;
             is_name = false;
-        } else if is_expect(i) {
+        } else if is_expect(rt, i) {
             is_name = true;
         } else {
-            options = with_argument(options, i);
+            options = with_argument(rt, options, i);
         }
-        i += 1;
     }
     if is_name {
         return asking(options, Asked::NoAnswers);
@@ -150,13 +173,26 @@ pub(crate) fn read_options() -> Options {
     options
 }
 
-pub(crate) fn say_version() {
-    io::write_all(STDOUT_FILENO, b"rack 4.3.0\n");
+// The status; a full disk doesn't change it.
+fn tell(rt: HostRuntime, words: &[u8]) -> u8 {
+    match rt.write_all(words) {
+        Ok(()) => 0,
+        Err(error) => {
+            if error.kind() == ErrorKind::BrokenPipe {
+                return UNHEARD;
+            }
+            0
+        }
+    }
 }
 
-pub(crate) fn say_help() {
-    io::write_all(
-        STDOUT_FILENO,
+pub(crate) fn say_version(rt: HostRuntime) -> u8 {
+    tell(rt, b"rack 4.3.0\n")
+}
+
+pub(crate) fn say_help(rt: HostRuntime) -> u8 {
+    tell(
+        rt,
         b"usage: rack [--explain] [--echo] [--expect ANSWERS] [FILE | -]
        rack --judge SHEET MEMORY LOG
 
@@ -173,20 +209,20 @@ Status, told by the script that starts the program: 1 where an answer was error 
 one expected, or a file failed, of a log that it is wrong; 2 where the arguments are wrong, of
 a log that judging it was refused or a file failed.
 ",
-    );
+    )
 }
 
 // What is wrong with the arguments.
-pub(crate) fn complain_of(words: &[u8]) {
-    io::write_all(STDERR_FILENO, b"rack: ");
-    io::write_all(STDERR_FILENO, words);
-    io::write_all(STDERR_FILENO, b" (--help tells more)\n");
+pub(crate) fn complain_of(rt: HostRuntime, words: &[u8]) {
+    say(rt, b"rack: ");
+    say(rt, words);
+    say(rt, b" (--help tells more)\n");
 }
 
-pub(crate) fn complain_of_unknown(i: usize) {
-    let mut space = io::buffer();
-    let n = os::arg(i, &mut space);
-    io::write_all(STDERR_FILENO, b"rack: ");
-    io::write_all(STDERR_FILENO, &space[..n]);
-    io::write_all(STDERR_FILENO, b" is unknown (--help tells more)\n");
+pub(crate) fn complain_of_unknown(rt: HostRuntime, i: usize) {
+    let mut space = [0u8; 4096];
+    let n = argument(rt, i, &mut space);
+    say(rt, b"rack: ");
+    say(rt, &space[..n]);
+    say(rt, b" is unknown (--help tells more)\n");
 }
