@@ -43,6 +43,7 @@ fn pass(c: Controller, i: usize, memory: &mut [u8], log: &[u8]) -> Passed
 }
 
 // What is told of a log of this size.
+#[tactic(auto, unfolding(crate::specs::Answers::told, crate::specs::Answers::verdict_of, words::specs::Choice::when))]
 fn told(c: Controller, at: usize, error: i32, size: usize) -> Judged
     ensures { (m : List ℕ) → judge_given result m ≡ told size (found c m at error) }
 {

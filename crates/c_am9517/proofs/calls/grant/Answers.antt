@@ -1,6 +1,0 @@
-use mathlib.Core.Path.{◌∙◌, ap}
-use Rattle.c_am9517.specs.Host.{call_of}
-use Rattle.c_am9517.proofs.calls.grant.Goals as goal
-
-pub returns : goal.returns
-returns c = c.answered_of.ensures ∙ ap call_of c.before.grant.ensures.0
