@@ -3,7 +3,7 @@ usage() {
     cat <<'TEXT'
 usage: ./dist.sh [--to FOLDER] [--install]
 
-Proves the crates c_am9517 and c_board and the program rack and makes dist/: the C library
+Proves the crates c_am9517_c and c_board_c and the program rack and makes dist/: the C library
 as a host takes it, the board's beside it, and the console as a pier runs it, with no toolchain.
   --to FOLDER  makes FOLDER instead of dist/
   --install    then installs the libraries (not the console): headers, archives, shared
@@ -13,9 +13,9 @@ as a host takes it, the board's beside it, and the console as a pier runs it, wi
 
 needs   the Rattle toolchain (its command rt), whose own linker makes the shared library
 writes  FOLDER: include/, lib/, share/man, examples/, rack/, install.sh, LICENSE, README,
-        in place of what this script made there before, and of nothing else; target/;
+        in place of what this script made there before, and of nothing else; crates/*/out;
         with --install DESTDIR/PREFIX
-takes   minutes, for the proofs; seconds where all is proved
+takes   tens of minutes for the proofs, where nothing was proved before; a minute where all is
 TEXT
 }
 
@@ -74,11 +74,18 @@ fi
 
 version=$(sed -n 's/^#define AM9517_VERSION_\(MAJOR\|MINOR\|PATCH\) //p' include/am9517.h | paste -sd. -)
 major=${version%%.*}
-tools=$(dirname -- "$(dirname -- "$(readlink -f -- "$(rt doc)")")")/on/$(uname -m)/toolchain
+tools=$(dirname -- "$(readlink -f -- "$(rt doc)")")/toolchain
 
-rt staticlib c_am9517
-rt staticlib c_board
-rt check rack
+# archive CRATE: proves it and what it stands on, and makes its out/libCRATE.a
+archive() {
+    echo "dist: proving $1 and what it stands on" >&2
+    mkdir -p "crates/$1/out"
+    (cd "crates/$1" && rt lib) > "crates/$1/out/proof.log" 2>&1 && [ -r "crates/$1/out/lib$1.a" ] \
+        || { tail -n 20 "crates/$1/out/proof.log" >&2; fail "that failed; see crates/$1/out/proof.log"; }
+}
+archive c_am9517_c
+archive c_board_c
+./rack --proved --version > /dev/null
 
 # beside its place, under a name that nothing has; what fails leaves the old one as it was
 mkdir -p -- "$(dirname -- "$out")"
@@ -94,14 +101,15 @@ filled() {
 }
 
 cp include/am9517.h include/am9517.hpp include/am9517_board.h "$new/include/"
-cp target/staticlib/libc_am9517.a "$new/lib/libam9517.a"
-cp target/staticlib/libc_board.a "$new/lib/libam9517_board.a"
+cp crates/c_am9517_c/out/libc_am9517_c.a "$new/lib/libam9517.a"
+cp crates/c_board_c/out/libc_board_c.a "$new/lib/libam9517_board.a"
 # memset is asked of the C library by name; nothing but the calls is shown
 "$tools/bin/ld.lld" -shared -soname "libam9517.so.$major" -z defs -z text -z now -z noexecstack --build-id --version-script packaging/exports.map \
     -o "$new/lib/libam9517.so.$version" --whole-archive "$new/lib/libam9517.a" --no-whole-archive "$tools/lib/libc.so.6"
 chmod 755 "$new/lib/libam9517.so.$version"
-ln -s "libam9517.so.$version" "$new/lib/libam9517.so.$major"
-ln -s "libam9517.so.$major" "$new/lib/libam9517.so"
+# copies, for the gate takes no checkout that has a link in it; install.sh makes links
+cp -p "$new/lib/libam9517.so.$version" "$new/lib/libam9517.so.$major"
+cp -p "$new/lib/libam9517.so.$version" "$new/lib/libam9517.so"
 filled am9517.pc lib/pkgconfig/am9517.pc
 filled am9517_board.pc lib/pkgconfig/am9517_board.pc
 filled am9517Config.cmake lib/cmake/am9517/am9517Config.cmake
@@ -116,7 +124,7 @@ cp LICENSE "$new/"
 
 cp packaging/rack "$new/rack/rack"
 cp judge "$new/rack/judge"
-cp target/bin/rack "$new/rack/bin/rack"
+cp crates/rack/out/rack "$new/rack/bin/rack"
 chmod 755 "$new/rack/rack" "$new/rack/judge" "$new/rack/bin/rack"
 for script in examples/*.rack examples/*.sh; do cp "$script" "${script%.*}.out" "$new/rack/examples/"; done
 cp docs/CONSOLE.md docs/LOGS.md LICENSE "$new/rack/"

@@ -1,7 +1,6 @@
 """The works of works.txt, and how the harness counts and times them."""
 import copy
 import os
-import platform
 import re
 import shutil
 import subprocess
@@ -58,9 +57,9 @@ def sides_of(work):
 
 
 def counter():
-    """What counts instructions here: valgrind on x86-64, else QEMU's user emulator with the plugin counter.c; None where neither is there."""
-    if platform.machine() == "x86_64":
-        return "valgrind" if shutil.which("valgrind") else None
+    """What counts instructions here: valgrind, else QEMU's user emulator with the plugin counter.c; None where neither is there."""
+    if shutil.which("valgrind"):
+        return "valgrind"
     return "qemu" if shutil.which("qemu-x86_64") and os.path.exists(os.path.join(BUILT, "counter.so")) else None
 
 
@@ -77,9 +76,7 @@ def counted_by_valgrind(lines, parts, folder):
 
 def counted_by_qemu(lines, parts, folder):
     out = os.path.join(folder, "out")
-    words = open(os.path.join(BUILT, "do")).read().split("exec ")[1].split()
-    loader = words[1:words.index('"$(dirname')]
-    command = ["qemu-x86_64", "-plugin", f"{os.path.join(BUILT, 'counter.so')},out={out}", *loader, os.path.join(BUILT, "harness"), "count"]
+    command = ["qemu-x86_64", "-plugin", f"{os.path.join(BUILT, 'counter.so')},out={out}", os.path.join(BUILT, "harness"), "count"]
     subprocess.run(command, input=lines, text=True, check=True, capture_output=True)
     numbers = [int(line) for line in open(out)]
     return numbers[1:1 + len(parts)]

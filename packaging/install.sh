@@ -41,15 +41,16 @@ put() {
     mkdir -p -- "$folder"
     for file in "$@"; do
         rm -f -- "$folder/${file##*/}"
-        cp -P -- "$file" "$folder/"
-        [ -h "$file" ] || chmod -- "$mode" "$folder/${file##*/}"
+        cp -- "$file" "$folder/"
+        chmod -- "$mode" "$folder/${file##*/}"
     done
 }
 
 put 644 include "$here"/include/*
 put 644 lib "$here"/lib/*.a
 put 755 lib "$here"/lib/*.so.*.*.*
-put 755 lib "$here"/lib/*.so "$here"/lib/*.so.@MAJOR@
+ln -sf -- libam9517.so.@VERSION@ "$to/lib/libam9517.so.@MAJOR@"
+ln -sf -- libam9517.so.@MAJOR@ "$to/lib/libam9517.so"
 put 644 lib/pkgconfig "$here"/lib/pkgconfig/*
 put 644 lib/cmake/am9517 "$here"/lib/cmake/am9517/*
 put 644 share/man/man3 "$here"/share/man/man3/*

@@ -13,7 +13,7 @@ mod write;
 
 pub use lines::prepare;
 pub use log::{break_log, close_log, open_log};
-pub use system::{open_read, read_full, say, say_failed, say_number};
+pub use system::{open_read, read_full, report, say, say_failed, say_number};
 pub use write::put_file;
 
 // What is to be done with a line.

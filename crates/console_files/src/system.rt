@@ -5,7 +5,7 @@ ghost use Rattle.std.specs.Prelude.{◌≤◌, length};
 use console_text::page::decimal;
 use std::fmt::InlineText;
 use std::fs::{File, OpenOptions};
-use std::io::{Error, Print, Read};
+use std::io::{Error, Print, Read, Write};
 use std::{fs, io, str};
 
 // The system's numbers for a name with a zero byte, and for one that is not UTF-8.
@@ -62,6 +62,21 @@ pub fn open_read(rt: HostRuntime, name: &[u8]) -> io::Result<File> {
 // Opens it empty, be it there or not.
 pub(crate) fn open_overwrite(rt: HostRuntime, name: &[u8]) -> io::Result<File> {
     File::create(&rt, path_of(name)?)
+}
+
+// The file under which descriptor 3 can be opened: a program that waits for a status has given it there.
+const REPORT: &str = "/dev/fd/3";
+
+// Tells a status to who started the program. Where nobody waits for it, it is lost.
+pub fn report(rt: HostRuntime, status: u8) {
+    let mut page = [0u8; 20];
+    let end = decimal(&mut page, 0, u64::from(status));
+    if page.len() < end {
+        return;
+    }
+    if let Ok(mut waiting) = OpenOptions::new().write(true).open(&rt, REPORT) {
+        let _ = waiting.write_all(&page[0..end]);
+    }
 }
 
 // Makes it, where no file has its name.

@@ -3,7 +3,7 @@
 
 mod options;
 
-use console_files::open_read;
+use console_files::{open_read, report};
 use console_judge::{UNHEARD, judge_files};
 use console_turns::{Host, Script, Turn, Way, closed, complain, first_turn, leave_log, step};
 use options::{
@@ -194,18 +194,20 @@ fn judge_named(rt: HostRuntime, at: usize) -> u8 {
     judge_files(rt, &sheet[..n], &image[..m], &log[..k])
 }
 
-// The status is told to a script that asked for it by --report; without one a program that ran has none but that of an output that
-// nobody reads any more.
-fn reported(status: u8, is_reporting: bool) -> ExitCode {
-    if is_reporting | (status == UNHEARD) {
+// The status is told to a script that stands behind it, on descriptor 3: the program itself has that of an output that nobody reads any more, or none.
+fn reported(rt: HostRuntime, status: u8, is_reporting: bool) -> ExitCode {
+    if status == UNHEARD {
         return ExitCode::from(status);
+    }
+    if is_reporting {
+        report(rt, status);
     }
     ExitCode::SUCCESS
 }
 
 fn judge_and_report(rt: HostRuntime, at: usize) -> ExitCode {
     let status = judge_named(rt, at);
-    reported(status, at == 2)
+    reported(rt, status, at == 2)
 }
 
 fn main(rt: HostRuntime) -> ExitCode {
@@ -215,5 +217,5 @@ fn main(rt: HostRuntime) -> ExitCode {
     }
     let options = read_options(rt);
     let status = status_of(rt, options);
-    reported(status, options.is_reporting)
+    reported(rt, status, options.is_reporting)
 }
