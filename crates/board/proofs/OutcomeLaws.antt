@@ -97,6 +97,9 @@ front_passed front further h n e z =
 pub access_refused : (b : Board) (r : ℕ) (further : List (Ground ℕ)) (n : ℕ) → n ≡ refusal (access_grounds b r []) → (n ≡ 0 → ⊥) → n ≡ refusal (access_grounds b r further)
 access_refused b r further = front_refused (access_grounds b r []) further (omega arith, (omega arith, (omega arith, tt)))
 
+pub access_passed : (b : Board) (r : ℕ) (further : List (Ground ℕ)) (n : ℕ) → n ≡ refusal (access_grounds b r []) → n ≡ 0 → refusal further ≡ refusal (access_grounds b r further)
+access_passed b r further = front_passed (access_grounds b r []) further (omega arith, (omega arith, (omega arith, tt)))
+
 pub idle_refused : (b : Board) (further : List (Ground ℕ)) (n : ℕ) → n ≡ refusal (idle_grounds b []) → (n ≡ 0 → ⊥) → n ≡ refusal (idle_grounds b further)
 idle_refused b further = front_refused (idle_grounds b []) further (omega arith, (omega arith, tt))
 

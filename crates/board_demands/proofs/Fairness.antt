@@ -338,3 +338,8 @@ pub round_grants_are_grants : RoundGrantsAreGrants
 round_grants_are_grants b m d r k =
     when_each (All (λ (g : BoardGranted). (board_grant_of g.before).answer ≡ Value g.channel)) (eqb (refusal (board_round_grounds b m k)) 0)
     (λ e. round_granted k d (board_beginning b m r) (round_stands b m r k (eqb-true _ _ e))) (λ e. none)
+
+-- a grant on an idle board in its ranges is made, and told
+grant_told : (b : Board) → pair_valid b ≡ true → serves b ≡ false → quiet b ≡ false → (board_grant_of b).answer ≡ Value (winning_channel b)
+unfolding board_outcome refusal first when
+grant_told b v i q = simp (v, i, q)
