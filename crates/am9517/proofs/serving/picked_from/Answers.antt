@@ -1,6 +1,5 @@
 use Prim.Native.Nat.{ℕ}
-use mathlib.Core.Path.{◌≡◌, refl}
-use mathlib.Core.Bool.{true}
+use mathlib.Core.Path.{refl}
 use mathlib.Core.List.{List, [], ◌∷◌}
 use Rattle.words.specs.Choice.{when}
 use Rattle.words.specs.Grounds.{first}
@@ -19,11 +18,6 @@ firsts =
     ∷ (4 ∷ 0 ∷ 1 ∷ 0 ∷ 2 ∷ 0 ∷ 1 ∷ 0 ∷ 3 ∷ 0 ∷ 1 ∷ 0 ∷ 2 ∷ 0 ∷ 1 ∷ 0 ∷ [])
     ∷ []
 
--- the test over the whole table, which the checker computes
-by_the_rule : ruled picked_from 4 16 firsts ≡ true
-unfolding ruled every picked_from first when firsts
-by_the_rule = refl
-
 pub returns : goal.returns
-unfolding firsts
-returns c = picked_from_entry firsts c.before.args.last c.before.args.set by_the_rule
+unfolding ruled every picked_from first when firsts
+returns c = picked_from_entry firsts c.before.args.last c.before.args.set refl
