@@ -76,15 +76,7 @@ version=$(sed -n 's/^#define AM9517_VERSION_\(MAJOR\|MINOR\|PATCH\) //p' include
 major=${version%%.*}
 tools=$(dirname -- "$(readlink -f -- "$(rt doc)")")/toolchain
 
-# archive CRATE: proves it and what it stands on, and makes its out/libCRATE.a
-archive() {
-    echo "dist: proving $1 and what it stands on" >&2
-    mkdir -p "crates/$1/out"
-    (cd "crates/$1" && rt lib) > "crates/$1/out/proof.log" 2>&1 && [ -r "crates/$1/out/lib$1.a" ] \
-        || { tail -n 20 "crates/$1/out/proof.log" >&2; fail "that failed; see crates/$1/out/proof.log"; }
-}
-archive c_am9517_c
-archive c_board_c
+tools/archive c_am9517_c c_board_c
 ./rack --proved --version > /dev/null
 
 # beside its place, under a name that nothing has; what fails leaves the old one as it was
