@@ -108,7 +108,7 @@ check('and nothing of it is queued', 'queue 0 bytes' in shown, shown)
 check('one that fits is done', shown.endswith('\nok\n> exit\n'), shown)
 shown = typed([b'feed ' + b'00' * 3000 + b'\n', b'queue\n'])
 # what is typed behind it is echoed before or behind its answer
-check('a line that the terminal cuts is refused where the answers go elsewhere, too', shown.replace('queue\n', '').endswith('error\nbytes -\n'), shown)
+check('a line that the terminal cuts is refused where the answers go elsewhere, too', shown.endswith(('error\nbytes -\n', 'error\nqueue\nbytes -\n')), shown)
 shown, status = talk([b'fresh\n'], b'\x04')
 check('Ctrl-D leaves on a line of its own, with status 0', status == 0 and shown.endswith('> \n'), shown)
 shown, status = talk([b'fresh\n'], b'\x03')

@@ -67,15 +67,16 @@ pub(crate) fn open_overwrite(rt: HostRuntime, name: &[u8]) -> io::Result<File> {
 // The file under which descriptor 3 can be opened: a program that waits for a status has given it there.
 const REPORT: &str = "/dev/fd/3";
 
-// Tells a status to who started the program. Where nobody waits for it, it is lost.
-pub fn report(rt: HostRuntime, status: u8) {
+// Tells a status to who started the program, behind what stands there: whether it could be told.
+pub fn report(rt: HostRuntime, status: u8) -> bool {
     let mut page = [0u8; 20];
     let end = decimal(&mut page, 0, u64::from(status));
     if page.len() < end {
-        return;
+        return false;
     }
-    if let Ok(mut waiting) = OpenOptions::new().write(true).open(&rt, REPORT) {
-        let _ = waiting.write_all(&page[0..end]);
+    match OpenOptions::new().append(true).open(&rt, REPORT) {
+        Ok(mut waiting) => waiting.write_all(&page[0..end]).is_ok(),
+        Err(_) => false,
     }
 }
 

@@ -442,6 +442,11 @@ fn take(
             out,
             next.waiting,
         );
+        // nobody reads the output any more: nothing behind it is carried out
+        if host.is_unheard {
+            next.trace = shown.trace;
+            return next;
+        }
         let done = answer(
             host,
             way,

@@ -194,13 +194,11 @@ fn judge_named(rt: HostRuntime, at: usize) -> u8 {
     judge_files(rt, &sheet[..n], &image[..m], &log[..k])
 }
 
-// The status is told to a script that stands behind it, on descriptor 3: the program itself has that of an output that nobody reads any more, or none.
+// The status is told to a script that stands behind it, on descriptor 3. Where that can't be, and where nobody reads the output any more,
+// it is the program's own; else that has none.
 fn reported(rt: HostRuntime, status: u8, is_reporting: bool) -> ExitCode {
-    if status == UNHEARD {
+    if (status == UNHEARD) | (is_reporting && !report(rt, status)) {
         return ExitCode::from(status);
-    }
-    if is_reporting {
-        report(rt, status);
     }
     ExitCode::SUCCESS
 }

@@ -1,5 +1,6 @@
+use mathlib.Core.Path.{◌≡◌, refl}
+use mathlib.Core.Bool.{true}
 use Prim.Native.Nat.{ℕ}
-use mathlib.Core.Path.{refl}
 use mathlib.Core.List.{List, [], ◌∷◌}
 use Rattle.words.specs.Choice.{when}
 use Rattle.words.specs.Grounds.{first}
@@ -17,6 +18,11 @@ firsts =
     ∷ (4 ∷ 0 ∷ 1 ∷ 0 ∷ 2 ∷ 0 ∷ 1 ∷ 0 ∷ 3 ∷ 3 ∷ 3 ∷ 3 ∷ 3 ∷ 3 ∷ 3 ∷ 3 ∷ [])
     ∷ (4 ∷ 0 ∷ 1 ∷ 0 ∷ 2 ∷ 0 ∷ 1 ∷ 0 ∷ 3 ∷ 0 ∷ 1 ∷ 0 ∷ 2 ∷ 0 ∷ 1 ∷ 0 ∷ [])
     ∷ []
+
+-- the test over the whole table, which the checker computes
+by_the_rule : ruled picked_from 4 16 firsts ≡ true
+unfolding ruled every picked_from first when firsts
+by_the_rule = refl
 
 pub returns : goal.returns
 unfolding ruled every picked_from first when firsts
