@@ -2,6 +2,7 @@
 pub mod RangeLaws
 pub mod KeepLaws
 pub mod RefusalLaws
+pub mod ResultLaws
 pub mod RegisterLaws
 pub mod ModeLaws
 pub mod TableLaws

@@ -10,3 +10,4 @@ pub mod ClosedSets
 pub mod Ranges
 pub mod ClosedMasks
 pub mod Answers
+pub mod ClosedAnswers

@@ -11,7 +11,7 @@ use crate::editions::edition_number;
 use crate::state::answered;
 use words::bits::{is_set, with_bit};
 use words::bytes::byte_of;
-use words::choice::{when, when_word};
+use words::choice::when;
 
 pub mod editions;
 pub mod modes;
@@ -21,6 +21,7 @@ mod registers;
 mod serving;
 mod state;
 
+pub use refusals::Refusal;
 pub use serving::{entitled_of, picked_from};
 
 #[repr(C)]
@@ -63,13 +64,8 @@ pub enum Edition {
     Intel8237A,
 }
 
-// What an operation says: done; done, with the byte read or the channel granted; or the number of its refusal.
-#[derive(Clone, Copy)]
-pub enum Answer {
-    Done,
-    Value(u8),
-    Refused(u8),
-}
+// What an operation says: done, with the byte read or the channel granted where it has one; or its refusal.
+pub type Answer = Result<Option<u8>, Refusal>;
 
 // The next state, which is the old one where the answer is a refusal.
 #[derive(Clone, Copy)]
@@ -114,11 +110,11 @@ impl Controller {
     {
         // One copy, changed in place by a channel told by a variable, is copied whole; the commoner writes have a shorter way out of their own.
         let mut next = self;
-        let no = next.write_refusal(reg, byte);
+        let refusal = next.write_refusal(reg, byte);
         let n = (byte % 4) as usize;
         let port = (reg / 2 % 4) as usize;
-        let answer = answered(no, Answer::Done);
-        if no == 0 {
+        let answer = answered(refusal, None);
+        if refusal.is_none() {
             match reg {
                 9 => next.request = with_bit(next.request, n, is_set(byte, 2)),
                 0xA => next.mask = with_bit(next.mask, n, is_set(byte, 2)),
@@ -163,9 +159,9 @@ impl Controller {
     {
         let mut next = self;
         let mut value = next.temporary;
-        let no = next.read_refusal(reg);
+        let refusal = next.read_refusal(reg);
         let port = (reg / 2 % 4) as usize;
-        if no == 0 {
+        if refusal.is_none() {
             match reg {
                 8 => {
                     // Asked of the old state, after the store: so every read is 8 instructions shorter than with the call first.
@@ -177,14 +173,14 @@ impl Controller {
                 _ => {
                     let high = next.flip_flop == 1;
                     let c = next.channels[port];
-                    value = byte_of(when_word(reg % 2 == 0, c.address, c.count), high);
+                    value = byte_of(when(reg % 2 == 0, c.address, c.count), high);
                     next.flip_flop = when(high, 0, 1);
                 }
             }
         }
         // A block of its own, as above.
         {
-            let answer = answered(no, Answer::Value(value));
+            let answer = answered(refusal, Some(value));
             Outcome {
                 controller: next,
                 answer,
@@ -198,11 +194,11 @@ impl Controller {
     {
         // One copy and one way out, refused or not, which is shorter than two; so in reset and grant.
         let mut next = self;
-        let no = next.pins_refusal(levels);
-        if no == 0 {
+        let refusal = next.pins_refusal(levels);
+        if refusal.is_none() {
             next.pins = (levels % 256) as u8;
         }
-        let answer = answered(no, Answer::Done);
+        let answer = answered(refusal, None);
         Outcome {
             controller: next,
             answer,
@@ -213,11 +209,11 @@ impl Controller {
         ensures { (result ≡ reset_of self) × (refusal_number result.answer ≡ refusal (reset_grounds self)) }
     {
         let mut next = self;
-        let no = next.reset_refusal();
-        if no == 0 {
+        let refusal = next.reset_refusal();
+        if refusal.is_none() {
             next = next.cleared();
         }
-        let answer = answered(no, Answer::Done);
+        let answer = answered(refusal, None);
         Outcome {
             controller: next,
             answer,
@@ -229,11 +225,11 @@ impl Controller {
         ensures { (result ≡ waits_of self states) × (refusal_number result.answer ≡ refusal (waits_grounds self)) }
     {
         let mut next = self;
-        let no = next.waits_refusal();
-        if no == 0 {
+        let refusal = next.waits_refusal();
+        if refusal.is_none() {
             next.waits = states;
         }
-        let answer = answered(no, Answer::Done);
+        let answer = answered(refusal, None);
         Outcome {
             controller: next,
             answer,
@@ -246,11 +242,11 @@ impl Controller {
     {
         let mut next = self;
         let n = next.picked();
-        let no = next.grant_refusal(n);
-        if no == 0 {
+        let refusal = next.grant_refusal(n);
+        if refusal.is_none() {
             next = next.granted(n);
         }
-        let answer = answered(no, Answer::Value(n));
+        let answer = answered(refusal, Some(n));
         Outcome {
             controller: next,
             answer,

@@ -1,17 +1,10 @@
 // The ranges of a state.
-ghost use Rattle.std.specs.Prelude.{◌≡◌, [], ◌∷◌};
+ghost use Rattle.std.specs.Prelude.{◌≡◌};
 ghost use Rattle.am9517.specs.Ranges.{modes_valid, valid};
-ghost use Rattle.am9517.specs.ClosedMasks.{joined, flags_of, others_of};
+ghost use Rattle.am9517.specs.ClosedMasks.{flags_of, others_of};
 
 use crate::Controller;
 use crate::modes::mode_refused;
-
-// Four bytes as one number.
-fn quad(first: u8, second: u8, third: u8, fourth: u8) -> u64
-    ensures { result ≡ joined (first ∷ second ∷ third ∷ fourth ∷ []) }
-{
-    first as u64 + 0x100 * (second as u64) + 0x10000 * (third as u64) + 0x1000000 * (fourth as u64)
-}
 
 impl Controller {
     fn modes_valid(self) -> bool
@@ -31,16 +24,23 @@ impl Controller {
     fn flags(self) -> u64
         ensures { result ≡ flags_of self }
     {
-        let low = quad(self.tc, self.request, self.mask, self.pins);
-        let high = quad(self.in_service, self.serving, self.latch_full, self.latch);
-        low + 0x100000000 * high
+        u64::from_le_bytes([
+            self.tc,
+            self.request,
+            self.mask,
+            self.pins,
+            self.in_service,
+            self.serving,
+            self.latch_full,
+            self.latch,
+        ])
     }
 
     // Four more likewise: three that have ranges, and the one that lies behind them.
-    fn others(self) -> u64
+    fn others(self) -> u32
         ensures { result ≡ others_of self }
     {
-        quad(self.lowest, self.flip_flop, self.edition, self.temporary)
+        u32::from_le_bytes([self.lowest, self.flip_flop, self.edition, self.temporary])
     }
 
     // No range is broken. A mask has the bits that must be zero: idle, then in service.

@@ -1,16 +1,18 @@
 // Changes of the whole state.
-ghost use Rattle.std.specs.Prelude.{◌≡◌, eqb};
-ghost use Rattle.words.specs.Choice.{when};
+ghost use Rattle.std.specs.Prelude.{◌≡◌};
 ghost use Rattle.am9517.specs.State.{ended, cleared};
-ghost use Rattle.am9517.specs.declared.Answer.TheVariants.{Refused};
+ghost use Rattle.am9517.specs.ClosedAnswers.{answered};
 
-use crate::{Answer, Controller};
+use crate::{Answer, Controller, Refusal};
 
-// What is told where the refusal's number is 0, else that number.
-pub(crate) fn answered(no: u8, told: Answer) -> Answer
-    ensures { result ≡ when (eqb no 0) told (Refused no) }
+// The refusal, or what is told where there is none.
+pub(crate) fn answered(refusal: Option<Refusal>, told: Option<u8>) -> Answer
+    ensures { result ≡ answered refusal told }
 {
-    if no == 0 { told } else { Answer::Refused(no) }
+    match refusal {
+        None => Ok(told),
+        Some(refusal) => Err(refusal),
+    }
 }
 
 impl Controller {

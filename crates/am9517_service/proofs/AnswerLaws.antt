@@ -1,34 +1,37 @@
 -- What a run answers: refused, or the run of its open service.
-use Prim.Native.Nat.{ℕ, zero, suc, ◌+◌, ◌%◌, ◌<◌}
+use Prim.Native.Nat.{ℕ, zero, suc, ◌%◌, ◌<◌}
 use mathlib.Core.Path.{◌≡◌, refl, sym, ap, ◌∙◌}
 use mathlib.Core.Bool.{Bool, true, false, not}
 use mathlib.Core.List.{List, [], ◌∷◌}
 use native.Mathlib.Omega.{arith}
-use native.Mathlib.Nat.{zero-add, add-zero}
+use native.Mathlib.Nat.{zero-add}
 use lib.ListN.{length, get_or, set}
 use borrow.Author.Tests.{ne_eqb, eqb-true, not-true, not-false}
 use Rattle.words.specs.Choice.{when}
 use Rattle.words.specs.Grounds.{first}
 use Rattle.am9517.specs.State.{ended}
 use Rattle.am9517.specs.Fields.{blank, channel, make, field, with_channel}
-use Rattle.am9517.specs.Refusals.{refusal}
+use Rattle.am9517.specs.Refusals.{refused, refusal}
 use Rattle.am9517.specs.declared.Channel.{Channel}
 use Rattle.am9517.specs.declared.Controller.{Controller}
+use Rattle.am9517.specs.declared.refusals.Refusal.{Refusal}
 use Rattle.am9517_service.specs.declared.Reason.{Reason}
-use Rattle.am9517_service.specs.declared.RunAnswer.TheVariants.{Stopped}
 use Rattle.am9517_service.specs.declared.Counts.{Counts}
-use Rattle.am9517_service.specs.Counts.{counts, none, plus}
+use Rattle.am9517_service.specs.Counts.{none, plus}
 use Rattle.am9517_service.specs.World.{start_of, stop}
 use Rattle.am9517_service.specs.Run.{run_of}
-use Rattle.am9517_service.specs.Answers.{given, stopped, refused_of, run_grounds, ran_of}
+use Rattle.am9517_service.specs.Answers.{given, stopped, run_grounds, ran_of}
 use Rattle.am9517_service.specs.ClosedSpans.{stays_open}
 use Rattle.words.proofs.ChoiceLaws.{when_hit, when_miss}
 use Rattle.words.proofs.GroundLaws.{passed}
 use Rattle.am9517.proofs.RangeLaws.{fields}
+use Rattle.am9517.proofs.RefusalLaws.{taken}
+use Rattle.std.proofs.Common.{Some, Ok, Err}
 
-pub run_refused : (c : Controller) (m d r : List ℕ) (limit eop n : ℕ) → refusal (run_grounds c m) ≡ n → (n ≡ 0 → ⊥) → ran_of c m d r limit eop ≡ given (refused_of c n) m r
+pub run_refused : (c : Controller) (m d r : List ℕ) (limit eop : ℕ) (why : Refusal) → refused (refusal (run_grounds c m)) ≡ Some why
+    → ran_of c m d r limit eop ≡ given (record { controller = c; answer = Err why; counts = none }) m r
 unfolding ran_of when
-run_refused c m d r limit eop n e h = rw e (simp (ne_eqb n 0 h))
+run_refused c m d r limit eop why h = let t = taken (refusal (run_grounds c m)) why h in simp (ne_eqb _ 0 t.0, t.1)
 
 pub run_accepted : (c : Controller) (m d r : List ℕ) (limit eop : ℕ) → refusal (run_grounds c m) ≡ 0 → ran_of c m d r limit eop ≡ stopped (run_of limit eop d (start_of c m r))
 unfolding ran_of when
@@ -67,13 +70,9 @@ module _ (c : Controller) (i : ℕ) (ch : Channel) (here : ch ≡ channel c i) (
   stood_open s e = back c e refl ∙ sym (when_hit _ _ _ (not-false stays s))
 
 pub stood_as : (c x : Controller) (why : Reason) (stays : Bool) → stays ≡ stays_open why → x ≡ when stays c (ended c) → (m room : List ℕ)
-    → given (record { controller = x; answer = Stopped why; counts = none }) m room ≡ stopped (stop (start_of (when (stays_open why) c (ended c)) m room) why)
+    → given (record { controller = x; answer = Ok why; counts = none }) m room ≡ stopped (stop (start_of (when (stays_open why) c (ended c)) m room) why)
 unfolding stopped
-stood_as c x why stays e h m room = rw (← e) (ap (λ (y : Controller). given (record { controller = y; answer = Stopped why; counts = none }) m room) h)
+stood_as c x why stays e h m room = rw (← e) (ap (λ (y : Controller). given (record { controller = y; answer = Ok why; counts = none }) m room) h)
 
 pub none_plus : (k : Counts) → plus none k ≡ k
 none_plus k = simp zero-add
-
--- counts of transfers that move no device byte
-pub plus_still : (k : Counts) (t s : ℕ) → counts (k.transfers + t) k.used k.written (k.states + s) ≡ plus k (counts t 0 0 s)
-plus_still k t s = simp add-zero

@@ -22,7 +22,6 @@ use Rattle.am9517_service.specs.declared.legs.Bits.{Bits}
 use Rattle.am9517_service.specs.declared.copies.Copied.{Copied}
 use Rattle.am9517_service.specs.declared.Counts.{Counts}
 use Rattle.am9517_service.specs.declared.Ran.{Ran}
-use Rattle.am9517_service.specs.declared.RunAnswer.TheVariants.{Stopped}
 use Rattle.am9517_service.specs.Counts.{counts, none, plus}
 use Rattle.am9517_service.specs.World.{World, world, start_of, with_controller, memory_to_memory, Stop, stop}
 use Rattle.am9517_service.specs.Ends.{bits_of, with_bits, bits_after, channel_after, finished}
@@ -45,6 +44,7 @@ use Rattle.am9517_service.proofs.AnswerLaws.{none_plus}
 use Rattle.am9517.proofs.RangeLaws.{and_right}
 use Rattle.am9517_service.proofs.CopySourceLaws.{source_mode}
 use Rattle.am9517_service.proofs.CopyLaws.{copying_none, copying_some, copy_ends, copy_halts}
+use Rattle.std.proofs.Common.{Ok}
 
 pub serving_0 : (c : Controller) → memory_to_memory c ≡ true → c.serving ≡ 0
 unfolding memory_to_memory
@@ -178,11 +178,11 @@ module _ (c : Controller) (m d r : List ℕ) (limit eop : ℕ) (ic : memory_to_m
       → (byte : ℕ) → byte ≡ last_byte (route_of hold source target) m s.transfers → (m' : List ℕ) → m' ≡ carried_by (route_of hold source target) m s.transfers
       → (stays : Bool) → stays ≡ stays_open s.why → (x : Controller) → x ≡ after_copy c l byte stays
       → (k₀ : Counts) → k₀ ≡ none → (k : Counts) → k ≡ plus k₀ (counts s.transfers 0 0 (s.transfers * copy_pace c.waits))
-      → (a : Ran) → a ≡ record { controller = x; answer = Stopped s.why; counts = k } → given a m' r ≡ stopped ran
+      → (a : Ran) → a ≡ record { controller = x; answer = Ok s.why; counts = k } → given a m' r ≡ stopped ran
   unfolding stopped
   copy_answer s e some source es target eg hold eh b eb l el byte ey m' em stays et x ex k₀ e₀ k ek a ea =
       let n = s.transfers in
       let last = led n (stays_open s.why) in
       rw (ea, ex, el, ey, em, et, eb, eh, es, eg, ek, e₀)
-      (ap (λ (q : Counts). given (record { controller = last.controller; answer = Stopped s.why; counts = q }) last.memory r) (none_plus (counts n 0 0 (n * copy_pace c.waits)))
+      (ap (λ (q : Counts). given (record { controller = last.controller; answer = Ok s.why; counts = q }) last.memory r) (none_plus (counts n 0 0 (n * copy_pace c.waits)))
       ∙ ap stopped (sym ((copy_led s e).some some)))

@@ -1,5 +1,5 @@
 -- The bytes of memory-to-memory in pieces: up to where an address turns over, and from there on.
-use Prim.Native.Nat.{ℕ, ◌+◌, ◌-◌, ◌≤◌, ◌<◌}
+use Prim.Native.Nat.{ℕ, ◌+◌, ◌-◌, ◌≤◌, ◌<◌, min}
 use mathlib.Core.Path.{◌≡◌, refl, sym, ap, ◌∙◌}
 use mathlib.Core.Bool.{Bool, true, false}
 use mathlib.Core.List.{List}
@@ -7,7 +7,7 @@ use native.Mathlib.Omega.{arith}
 use lib.ListN.{length}
 use Rattle.words.specs.Choice.{when}
 use Rattle.words.specs.Steps.{steps}
-use Rattle.words.specs.Spans.{least, place_of, reach_of, carried}
+use Rattle.words.specs.Spans.{place_of, reach_of, carried}
 use Rattle.am9517.specs.Modes.{decrement}
 use Rattle.am9517_service.specs.declared.copies.Route.{Route}
 use Rattle.am9517_service.specs.ClosedLegs.{address_after}
@@ -15,7 +15,6 @@ use Rattle.am9517_service.specs.ClosedCopies.{carried_along, straight_of, farthe
 use Rattle.am9517_service.specs.Needs.{Straight}
 use Rattle.words.proofs.ChoiceLaws.{when_both, when_each, when_hit, when_miss, never}
 use Rattle.words.proofs.StepLaws.{steps_on, steps_below}
-use Rattle.words.proofs.BoundLaws.{least_left, least_right, least_some}
 use Rattle.words.proofs.SpanLaws.{reach_within, some_within, placed}
 use Rattle.words.proofs.SpreadLaws.{length_carried, carried_same, carried_on}
 
@@ -32,16 +31,16 @@ piece ρ n source target =
     let here = reach_of 65536 (decrement ρ.source.mode) ρ.source.address in
     when_each (Piece ρ n) ρ.hold
     (λ held. record {
-      some = λ h. least_some n there h (some_within 65536 ρ.to_down ρ.to target);
-      most = least_left n there;
-      straight = record { target = reach_within 65536 ρ.to_down ρ.to (least n there) target (least_right n there); source = λ e. never (sym held ∙ e) };
+      some = λ h. omega (arith, h, some_within 65536 ρ.to_down ρ.to target);
+      most = omega arith;
+      straight = record { target = reach_within 65536 ρ.to_down ρ.to (min n there) target (omega arith); source = λ e. never (sym held ∙ e) };
     })
     (λ steps. record {
-      some = λ h. least_some (least n there) here (least_some n there h (some_within 65536 ρ.to_down ρ.to target)) (some_within 65536 (decrement ρ.source.mode) ρ.source.address source);
-      most = omega (arith, least_left n there, least_left (least n there) here);
+      some = λ h. omega (arith, h, some_within 65536 ρ.to_down ρ.to target, some_within 65536 (decrement ρ.source.mode) ρ.source.address source);
+      most = omega arith;
       straight = record {
-        target = reach_within 65536 ρ.to_down ρ.to (least (least n there) here) target (omega (arith, least_right n there, least_left (least n there) here));
-        source = λ e. reach_within 65536 (decrement ρ.source.mode) ρ.source.address (least (least n there) here) source (least_right (least n there) here);
+        target = reach_within 65536 ρ.to_down ρ.to (min (min n there) here) target (omega arith);
+        source = λ e. reach_within 65536 (decrement ρ.source.mode) ρ.source.address (min (min n there) here) source (omega arith);
       };
     })
 

@@ -1,5 +1,5 @@
 -- The bytes of memory-to-memory where channel 0 is restored: those of its area up to there, and from there on those of its base, again and again.
-use Prim.Native.Nat.{ℕ, ◌+◌, ◌-◌, ◌%◌, ◌≤◌, ◌<◌}
+use Prim.Native.Nat.{ℕ, ◌+◌, ◌-◌, ◌%◌, ◌≤◌, ◌<◌, min}
 use mathlib.Core.Path.{◌≡◌, refl, sym, ap, ◌∙◌}
 use mathlib.Core.Bool.{Bool, true, false, ◌||◌}
 use mathlib.Core.List.{List}
@@ -10,7 +10,7 @@ use lib.ListN.{length, get_or, set}
 use borrow.Author.Tests.{eqb-true, ltb-true, ltb-false}
 use Rattle.words.specs.Choice.{when}
 use Rattle.words.specs.Steps.{steps}
-use Rattle.words.specs.Spans.{least, carried, Within}
+use Rattle.words.specs.Spans.{carried, Within}
 use Rattle.am9517.specs.Modes.{autoinitialize, decrement}
 use Rattle.am9517.specs.declared.Channel.{Channel}
 use Rattle.am9517_service.specs.declared.copies.Route.{Route}
@@ -20,7 +20,6 @@ use Rattle.am9517_service.specs.ClosedCopies.{source_on, restored, restores, car
 use Rattle.am9517_service.specs.Needs.{Straight, Again}
 use Rattle.words.proofs.ChoiceLaws.{when_both, when_each, when_hit, when_same, never}
 use Rattle.words.proofs.StepLaws.{steps_none, steps_on, steps_below}
-use Rattle.words.proofs.BoundLaws.{least_left, least_right, least_some}
 use Rattle.words.proofs.SpreadLaws.{carried_same, carried_on}
 use Rattle.am9517_service.proofs.TransferLaws.{address_after_none}
 use Rattle.am9517_service.proofs.CopyPieceLaws.{Piece, piece, route_length}
@@ -102,7 +101,7 @@ module _ {ρ₀ : Route} {area n : ℕ} {m₀ : List ℕ} {ρ : Route} {m : List
   one_within : (down : Bool) (a : ℕ) → a < 65536 → Within down a 1 65536
   one_within down a h = record { up = λ e. omega arith; back = λ e. (h, omega arith) }
 
-  pub laying_piece : 0 < left → (each : Bool) (k : ℕ) → k ≡ when each 1 (least (straight_of ρ left) until) → Stretch ρ until left k
+  pub laying_piece : 0 < left → (each : Bool) (k : ℕ) → k ≡ when each 1 (min (straight_of ρ left) until) → Stretch ρ until left k
   laying_piece h each k e =
       let p : Piece ρ left (straight_of ρ left) = piece ρ left source_there target_there in
       rw e
@@ -114,10 +113,10 @@ module _ {ρ₀ : Route} {area n : ℕ} {m₀ : List ℕ} {ρ : Route} {m : List
         straight = record { target = one_within ρ.to_down ρ.to target_there; source = λ free. one_within (decrement ρ.source.mode) ρ.source.address source_there };
       })
       (record {
-        some = least_some (straight_of ρ left) until (p.some h) g.some;
-        most = omega (arith, least_left (straight_of ρ left) until, p.most);
-        within = least_right (straight_of ρ left) until;
-        straight = straight_fewer ρ (straight_of ρ left) (least (straight_of ρ left) until) (least_left (straight_of ρ left) until) p.straight;
+        some = omega (arith, p.some h, g.some);
+        most = omega (arith, p.most);
+        within = omega arith;
+        straight = straight_fewer ρ (straight_of ρ left) (min (straight_of ρ left) until) (omega arith) p.straight;
       }))
 
   module _ (k : ℕ) (s : Stretch ρ until left k) (m' : List ℕ) (em : m' ≡ carried_along ρ m k) where

@@ -13,7 +13,7 @@ use Rattle.am9517.specs.Refusals.{refusal, grant_grounds}
 use Rattle.am9517.specs.Serving.{picked, granted}
 use Rattle.am9517.specs.Answers.{outcome, grant_of}
 use Rattle.am9517.specs.declared.Controller.{Controller}
-use Rattle.am9517.specs.declared.Answer.TheVariants.{Value}
+use Rattle.std.proofs.Common.{Some, Ok}
 use Rattle.am9517_service.specs.Answers.{run_grounds}
 use Rattle.am9517_service.specs.Round.{nobody}
 use Rattle.am9517.proofs.RangeLaws.{ranges, of_ranges}
@@ -40,7 +40,7 @@ module _ (c : Controller) (v : valid c ≡ true) (i : c.in_service ≡ 0) (some 
   unfolding refusal first when
   grant_number = simp (v, eq-eqb _ _ i, some)
 
-  pub grant_some : grant_of c ≡ record { controller = granted c (picked c); answer = Value (picked c) }
+  pub grant_some : grant_of c ≡ record { controller = granted c (picked c); answer = Ok (Some (picked c)) }
   unfolding outcome when
   grant_some = rw grant_number refl
 

@@ -1,5 +1,5 @@
 -- A leg is what the rules say of a run: the one law of a service that is not memory-to-memory.
-use Prim.Native.Nat.{ℕ, zero, suc, ◌+◌, ◌≤◌, ◌<◌}
+use Prim.Native.Nat.{ℕ, zero, suc, ◌+◌, ◌≤◌, ◌<◌, min}
 use mathlib.Core.Path.{◌≡◌, refl, sym, ap, ◌∙◌}
 use mathlib.Core.Bool.{Bool, true, false, ◌||◌}
 use mathlib.Core.List.{List, [], ◌∷◌}
@@ -8,7 +8,6 @@ use lib.Dec.{eqb, leb}
 use lib.ListN.{length, get_or, set}
 use borrow.Author.Tests.{ne_eqb, leb-true, leb-false}
 use Rattle.words.specs.Choice.{when}
-use Rattle.words.specs.Spans.{least}
 use Rattle.am9517.specs.State.{ended}
 use Rattle.am9517.specs.Fields.{blank, channel, make, field}
 use Rattle.am9517.specs.Modes.{is_single, is_cascade}
@@ -21,7 +20,6 @@ use Rattle.am9517_service.specs.declared.spans.Span.{Span}
 use Rattle.am9517_service.specs.declared.legs.Leg.{Leg}
 use Rattle.am9517_service.specs.declared.Counts.{Counts}
 use Rattle.am9517_service.specs.declared.Ran.{Ran}
-use Rattle.am9517_service.specs.declared.RunAnswer.TheVariants.{Stopped}
 use Rattle.am9517_service.specs.Counts.{none, plus}
 use Rattle.am9517_service.specs.World.{World, world, start_of, with_controller, memory_to_memory, serving_channel, Stop, stop}
 use Rattle.am9517_service.specs.Stops.{dropped}
@@ -38,6 +36,7 @@ use Rattle.am9517_service.proofs.SpanLaws.{Until, until, stocked, until_most}
 use Rattle.am9517_service.proofs.TransferLaws.{current_after_mode, reached_none, reached_some}
 use Rattle.am9517_service.proofs.AnswerLaws.{none_plus}
 use Rattle.am9517_service.proofs.LegRunLaws.{run_dropped, run_cascade, run_ends, run_halts}
+use Rattle.std.proofs.Common.{Ok}
 
 -- what is made of an element that was just put takes its place
 pub put_again : (f : Channel → Channel) (l : List Channel) (n : ℕ) (x : Channel) → set (set l n x) n (f (get_or (set l n x) n blank)) ≡ set l n (f x)
@@ -136,10 +135,10 @@ module _ (c : Controller) (m d r : List ℕ) (limit eop : ℕ) (nc : memory_to_m
     u : Until (is_single chan.mode) chan.count eop most
     u = until (is_single chan.mode) chan.count eop
 
-    led_ended : leb most (least limit stock) ≡ true → Led (span most Ended)
+    led_ended : leb most (min limit stock) ≡ true → Led (span most Ended)
     unfolding travelled
     led_ended t =
-        let h : most ≤ least limit stock = leb-true _ _ t in
+        let h : most ≤ min limit stock = leb-true _ _ t in
         record {
           most = until_most (is_single chan.mode) chan.count eop most small (omega arith);
           stocked = λ size. stocked chan m d r limit most size (until_most (is_single chan.mode) chan.count eop most small (omega arith)) h;
@@ -147,45 +146,45 @@ module _ (c : Controller) (m d r : List ℕ) (limit eop : ℕ) (nc : memory_to_m
           some = λ z. ends h;
         }
       where
-        ends : most ≤ least limit stock → ran ≡ stop (led most false) Ended
+        ends : most ≤ min limit stock → ran ≡ stop (led most false) Ended
         ends h =
             run_ends c m d r limit eop nc nd ns below small most refl h
             ∙ ap (λ (w : World). stop (with_controller w (when (eqb most (chan.count + 1) || eqb most eop) (finished w.controller w.controller.serving (eqb most (chan.count + 1)) (eqb most eop)) (ended w.controller))) Ended) (reached_some c m d r most u.some)
             ∙ ap (λ (x : Controller). stop (with_controller (travelled c m d r most) x) Ended) (ended_leg c most s1 (pace c.command c.waits) eop)
 
-    led_halted : leb most (least limit stock) ≡ false → Led (span (least limit stock) (halt limit stock))
+    led_halted : leb most (min limit stock) ≡ false → Led (span (min limit stock) (halt limit stock))
     unfolding travelled
     led_halted t =
-        let h : least limit stock < most = leb-false _ _ t in
-        let few : least limit stock ≤ 65536 = until_most (is_single chan.mode) chan.count eop (least limit stock) small (omega arith) in
+        let h : min limit stock < most = leb-false _ _ t in
+        let few : min limit stock ≤ 65536 = until_most (is_single chan.mode) chan.count eop (min limit stock) small (omega arith) in
         record {
           most = few;
-          stocked = λ size. stocked chan m d r limit (least limit stock) size few (omega arith);
+          stocked = λ size. stocked chan m d r limit (min limit stock) size few (omega arith);
           stood = λ z. halts h ∙ ap (λ (k : ℕ). stop (reached c m d r k) (halt limit stock)) z ∙ ap (λ (w : World). stop w (halt limit stock)) (reached_none c m d r)
               ∙ ap (λ (x : Controller). stop (start_of x m r) (halt limit stock)) (sym (when_hit _ _ _ (halt_open limit stock)));
-          some = λ z. halts h ∙ ap (λ (w : World). stop w (halt limit stock)) (reached_some c m d r (least limit stock) z) ∙ goes h z;
+          some = λ z. halts h ∙ ap (λ (w : World). stop w (halt limit stock)) (reached_some c m d r (min limit stock) z) ∙ goes h z;
         }
       where
-        halts : least limit stock < most → ran ≡ stop (reached c m d r (least limit stock)) (halt limit stock)
-        halts h = run_halts c m d r limit eop nc nd ns below small (least limit stock) refl h
+        halts : min limit stock < most → ran ≡ stop (reached c m d r (min limit stock)) (halt limit stock)
+        halts h = run_halts c m d r limit eop nc nd ns below small (min limit stock) refl h
 
-        quiet : least limit stock < most → 0 < least limit stock → eqb (least limit stock) (chan.count + 1) || eqb (least limit stock) eop ≡ false
+        quiet : min limit stock < most → 0 < min limit stock → eqb (min limit stock) (chan.count + 1) || eqb (min limit stock) eop ≡ false
         quiet h z =
-            let last : eqb (least limit stock) (chan.count + 1) ≡ false = ne_eqb _ _ (λ (e : least limit stock ≡ chan.count + 1). omega (arith, u.most)) in
-            let none : eqb (least limit stock) eop ≡ false = ne_eqb _ _ (u.quiet (least limit stock) z h) in
+            let last : eqb (min limit stock) (chan.count + 1) ≡ false = ne_eqb _ _ (λ (e : min limit stock ≡ chan.count + 1). omega (arith, u.most)) in
+            let none : eqb (min limit stock) eop ≡ false = ne_eqb _ _ (u.quiet (min limit stock) z h) in
             simp (last, none)
 
-        goes : least limit stock < most → 0 < least limit stock → stop (travelled c m d r (least limit stock)) (halt limit stock) ≡ stop (led (least limit stock) (stays_open (halt limit stock))) (halt limit stock)
+        goes : min limit stock < most → 0 < min limit stock → stop (travelled c m d r (min limit stock)) (halt limit stock) ≡ stop (led (min limit stock) (stays_open (halt limit stock))) (halt limit stock)
         goes h z =
-            ap (λ (x : Controller). stop (with_controller (travelled c m d r (least limit stock)) x) (halt limit stock)) (open_leg_lem c (least limit stock) s1 (pace c.command c.waits) eop (quiet h z))
-            ∙ ap (λ (b : Bool). stop (led (least limit stock) b) (halt limit stock)) (sym (halt_open limit stock))
+            ap (λ (x : Controller). stop (with_controller (travelled c m d r (min limit stock)) x) (halt limit stock)) (open_leg_lem c (min limit stock) s1 (pace c.command c.waits) eop (quiet h z))
+            ∙ ap (λ (b : Bool). stop (led (min limit stock) b) (halt limit stock)) (sym (halt_open limit stock))
 
   pub leg_run : Led (span_of chan (active c c.serving) (length d) (length r) limit eop)
   unfolding span_of dropped
   leg_run =
       when_each Led (dropped c) led_dropped
       (λ nd. when_each Led (is_cascade chan.mode) (led_cascade nd)
-      (λ ns. when_each Led (leb most (least limit stock)) (led_ended nd ns) (led_halted nd ns)))
+      (λ ns. when_each Led (leb most (min limit stock)) (led_ended nd ns) (led_halted nd ns)))
 
 -- The same, told by what a function has at hand: the channel i, its record, its line and the span.
 module _ (c : Controller) (m d r : List ℕ) (limit eop : ℕ) (nc : memory_to_memory c ≡ false) (i : ℕ) (here : i ≡ c.serving) (ch : Channel) (is : ch ≡ channel c i)
@@ -213,11 +212,11 @@ module _ (c : Controller) (m d r : List ℕ) (limit eop : ℕ) (nc : memory_to_m
         → (m' : List ℕ) → m' ≡ stored ch d m s.transfers → (r' : List ℕ) → r' ≡ loaded ch m r s.transfers
         → (stays : Bool) → stays ≡ stays_open s.why → (x : Controller) → x ≡ after_leg c i l stays
         → (k₀ : Counts) → k₀ ≡ none → (k : Counts) → k ≡ plus k₀ (counts_of ch s.transfers l.states)
-        → (a : Ran) → a ≡ record { controller = x; answer = Stopped s.why; counts = k } → given a m' r' ≡ stopped (run_of limit eop d (start_of c m r))
+        → (a : Ran) → a ≡ record { controller = x; answer = Ok s.why; counts = k } → given a m' r' ≡ stopped (run_of limit eop d (start_of c m r))
     unfolding stopped leg_of
     leg_answer some l el m' em r' er stays et x ex k₀ e₀ k ek a ea =
         let n = s.transfers in
         let last = led c m d r limit eop nc low few n (stays_open s.why) in
         rw (ea, ex, ek, e₀, el, em, er, et, serves, here)
-        (ap (λ (q : Counts). given (record { controller = last.controller; answer = Stopped s.why; counts = q }) last.memory last.room) (none_plus last.counts)
+        (ap (λ (q : Counts). given (record { controller = last.controller; answer = Ok s.why; counts = q }) last.memory last.room) (none_plus last.counts)
         ∙ ap stopped (sym (leg_led.some some)))

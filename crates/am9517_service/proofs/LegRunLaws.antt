@@ -1,5 +1,5 @@
 -- The run of a service that is not memory-to-memory is one trip, and what ends or stops it.
-use Prim.Native.Nat.{ℕ, ◌+◌, ◌-◌, ◌≤◌, ◌<◌}
+use Prim.Native.Nat.{ℕ, ◌+◌, ◌-◌, ◌≤◌, ◌<◌, min}
 use mathlib.Core.Path.{◌≡◌, refl, sym, ap, ◌∙◌}
 use mathlib.Core.Bool.{Bool, true, false, ◌&&◌, ◌||◌}
 use mathlib.Core.List.{List}
@@ -20,12 +20,10 @@ use Rattle.am9517_service.specs.Stops.{dropped, short, stops}
 use Rattle.am9517_service.specs.Transfer.{writes, reads}
 use Rattle.am9517_service.specs.Ends.{counting, reaches_tc, finished, after_tc_or_eop, single}
 use Rattle.am9517_service.specs.Run.{run_of}
-use Rattle.words.specs.Spans.{least}
 use Rattle.am9517_service.specs.ClosedLegs.{reached, travelled}
 use Rattle.am9517_service.specs.ClosedSpans.{until_end, stock_of, halt}
 use Rattle.words.proofs.ChoiceLaws.{when_both, when_each}
 use Rattle.am9517_service.proofs.SpanLaws.{Until, until, read_not_write, stock_bytes, stock_space, stock_any}
-use Rattle.words.proofs.BoundLaws.{least_left, least_right, least_below, least_first}
 use Rattle.am9517_service.proofs.RunLaws.{Free, run_stop, stops_dropped, stops_cascade, stops_limit, stops_short, stops_none}
 use Rattle.am9517_service.proofs.RunWayLaws.{Way, way_on, way_end}
 use Rattle.am9517_service.proofs.TransferLaws.{Standing, standing, reached_none, reached_more}
@@ -134,10 +132,8 @@ module _ (c : Controller) (m d r : List ℕ) (limit eop : ℕ) (nc : memory_to_m
   unstopped n h a k l = free_after k (omega arith) (allowed_less (k + 1) n (omega arith) a)
 
   -- where a trip of n transfers is allowed by limit and stock
-  allowed_by : (n : ℕ) → n ≤ least limit (stock_of ch (length d) (length r)) → Allowed n
+  allowed_by : (n : ℕ) → n ≤ min limit (stock_of ch (length d) (length r)) → Allowed n
   allowed_by n h =
-      let left = least_left limit (stock_of ch (length d) (length r)) in
-      let right = least_right limit (stock_of ch (length d) (length r)) in
       record {
         most = omega arith;
         bytes = λ e. omega (arith, stock_bytes ch (length d) (length r) e);
@@ -145,7 +141,7 @@ module _ (c : Controller) (m d r : List ℕ) (limit eop : ℕ) (nc : memory_to_m
       }
 
   -- The service ends with the n-th transfer.
-  pub run_ends : (n : ℕ) → n ≡ until_end once ch.count eop → n ≤ least limit (stock_of ch (length d) (length r))
+  pub run_ends : (n : ℕ) → n ≡ until_end once ch.count eop → n ≤ min limit (stock_of ch (length d) (length r))
       → run_of limit eop d (start_of c m r)
       ≡ stop (with_controller (here n) (when (eqb n (ch.count + 1) || eqb n eop) (finished (here n).controller (here n).controller.serving (eqb n (ch.count + 1)) (eqb n eop)) (ended (here n).controller))) Ended
   run_ends n e h =
@@ -165,7 +161,7 @@ module _ (c : Controller) (m d r : List ℕ) (limit eop : ℕ) (nc : memory_to_m
       go false false ew er = absurd (omega (arith, stock_any ch (length d) (length r) ew er))
 
   -- The service stops after n transfers, before its end.
-  pub run_halts : (n : ℕ) → n ≡ least limit (stock_of ch (length d) (length r)) → n < until_end once ch.count eop
+  pub run_halts : (n : ℕ) → n ≡ min limit (stock_of ch (length d) (length r)) → n < until_end once ch.count eop
       → run_of limit eop d (start_of c m r) ≡ stop (here n) (halt limit (stock_of ch (length d) (length r)))
   unfolding halt
   run_halts n e h =
@@ -180,12 +176,11 @@ module _ (c : Controller) (m d r : List ℕ) (limit eop : ℕ) (nc : memory_to_m
       ∙ way_on limit eop d here once ch.count way (until_end once ch.count eop) u n h a.most (unstopped n (omega arith) a)
       ∙ when_each (λ (x : Reason). run_of (limit - n) eop d (here n) ≡ stop (here n) x) (leb limit stock)
       (λ t.
-      let all : n ≡ limit = e ∙ least_first limit stock (leb-true _ _ t) in
+      let all : n ≡ limit = e ∙ (let h : limit ≤ stock = leb-true _ _ t in let m : min limit stock ≡ limit = omega arith in m) in
       let none : limit - n ≡ 0 = omega arith in
       run_stop eop d (here n) (limit - n) _ (stops_limit (here n) d (limit - n) still line (cascade_is n within) (eq-eqb _ _ none)))
       (λ t.
       let more : stock < limit = leb-false _ _ t in
-      let right = least_right limit stock in
-      let all : n ≡ stock = e ∙ least_below limit stock (omega arith) in
+      let all : n ≡ stock = e ∙ (let m : min limit stock ≡ stock = omega arith in m) in
       let left : limit - n ≡ 0 → ⊥ = λ z. omega arith in
       run_stop eop d (here n) (limit - n) _ (stops_short (here n) d (limit - n) still line (cascade_is n within) (ne_eqb _ _ left) (short_after n within all)))

@@ -9,12 +9,13 @@ use borrow.Author.Tests.{ne_eqb, eqb-true, not-false, ltb-false}
 use Rattle.words.specs.Choice.{when}
 use Rattle.words.specs.Grounds.{first}
 use Rattle.am9517.specs.Ranges.{valid}
-use Rattle.am9517.specs.Refusals.{refusal}
+use Rattle.am9517.specs.Refusals.{refused, refusal}
 use Rattle.am9517.specs.Serving.{picked, granted}
 use Rattle.am9517.specs.declared.Controller.{Controller}
+use Rattle.am9517.specs.declared.refusals.Refusal.{Refusal}
 use Rattle.am9517_service.specs.declared.Reason.{Reason}
 use Rattle.am9517_service.specs.declared.Reason.TheVariants.{Ended, Dropped, Cascade, Limit, Short}
-use Rattle.am9517_service.specs.declared.RoundAnswer.TheVariants.{Done, Quiet, Stopped, Refused}
+use Rattle.am9517_service.specs.declared.RoundEnd.TheVariants.{Done, Quiet, Stopped}
 use Rattle.am9517_service.specs.World.{Stop, start_of}
 use Rattle.am9517_service.specs.Bounds.{most_waits, most_transfers, most_states}
 use Rattle.am9517_service.specs.Round.{after_next, Course, Close, close, beginning, nobody, run_next, with_run, is_ended, round_of}
@@ -25,11 +26,13 @@ use Rattle.am9517.proofs.RangeLaws.{ranges, of_ranges}
 use Rattle.am9517.proofs.KeepLaws.{granted_kept}
 use Rattle.am9517_service.proofs.KeepLaws.{Counted, run_counted, Left, run_left_lem}
 use Rattle.am9517_service.proofs.GrantLaws.{granted_open, granted_waits, picked_below}
+use Rattle.am9517.proofs.RefusalLaws.{taken}
+use Rattle.std.proofs.Common.{Some, Ok, Err}
 
 -- What a round answers: refused, or the round.
-pub round_refused : (c : Controller) (m d r : List ℕ) (k n : ℕ) → refusal (round_grounds c m k) ≡ n → (n ≡ 0 → ⊥) → closed (close (beginning c m r) (Refused n)) ≡ rounded_of c m d r k
+pub round_refused : (c : Controller) (m d r : List ℕ) (k : ℕ) (why : Refusal) → refused (refusal (round_grounds c m k)) ≡ Some why → closed (close (beginning c m r) (Err why)) ≡ rounded_of c m d r k
 unfolding rounded_of when
-round_refused c m d r k n g h = rw g (simp (ne_eqb n 0 h))
+round_refused c m d r k why h = let t = taken (refusal (round_grounds c m k)) why h in simp (ne_eqb _ 0 t.0, t.1)
 
 pub round_accepted : (c : Controller) (m d r : List ℕ) (k : ℕ) → refusal (round_grounds c m k) ≡ 0 → rounded_of c m d r k ≡ closed (round_of k d (beginning c m r))
 unfolding rounded_of when
@@ -132,7 +135,7 @@ pub record Rolling (d : List ℕ) (size : ℕ) (o : Close) (left begun : ℕ) (w
   pub same : round_of left d w ≡ o
 
 module _ (d : List ℕ) (size : ℕ) (o : Close) (left begun : ℕ) (w : Course) (g : Rolling d size o left begun w) where
-  pub rolling_done : left ≡ 0 → close w Done ≡ o
+  pub rolling_done : left ≡ 0 → close w (Ok Done) ≡ o
   unfolding round_of
   rolling_done e = ap (λ (j : ℕ). round_of j d w) (sym e) ∙ g.same
 
@@ -140,7 +143,7 @@ module _ (d : List ℕ) (size : ℕ) (o : Close) (left begun : ℕ) (w : Course)
     goes : round_of (suc (left - 1)) d w ≡ o
     goes = let e : suc (left - 1) ≡ left = omega arith in ap (λ (j : ℕ). round_of j d w) e ∙ g.same
 
-    pub rolling_quiet : nobody w.controller ≡ true → close w Quiet ≡ o
+    pub rolling_quiet : nobody w.controller ≡ true → close w (Ok Quiet) ≡ o
     unfolding round_of first
     rolling_quiet h = sym (when_hit _ _ _ h) ∙ goes
 
@@ -149,13 +152,13 @@ module _ (d : List ℕ) (size : ℕ) (o : Close) (left begun : ℕ) (w : Course)
       n = picked w.controller
 
       -- how it goes on behind the run
-      on : when (not (is_ended s.reason)) (close (with_run w n s) (Stopped s.reason)) (round_of (left - 1) d (with_run w n s)) ≡ o
+      on : when (not (is_ended s.reason)) (close (with_run w n s) (Ok (Stopped s.reason))) (round_of (left - 1) d (with_run w n s)) ≡ o
       unfolding round_of first
       on =
-          ap (λ (x : Stop). when (not (is_ended x.reason)) (close (with_run w n x) (Stopped x.reason)) (round_of (left - 1) d (with_run w n x))) (sym is)
+          ap (λ (x : Stop). when (not (is_ended x.reason)) (close (with_run w n x) (Ok (Stopped x.reason))) (round_of (left - 1) d (with_run w n x))) (sym is)
           ∙ sym (when_miss _ _ _ some) ∙ goes
 
-      pub rolling_stops : is_ended s.reason ≡ false → close (with_run w n s) (Stopped s.reason) ≡ o
+      pub rolling_stops : is_ended s.reason ≡ false → close (with_run w n s) (Ok (Stopped s.reason)) ≡ o
       rolling_stops h = sym (when_hit _ _ _ (ap not h)) ∙ on
 
       leaves : Left (granted w.controller n).lowest s

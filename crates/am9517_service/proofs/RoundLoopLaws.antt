@@ -15,23 +15,23 @@ use Rattle.words.specs.Spans.{spread}
 use Rattle.am9517.specs.Fields.{channel, blank, with_channel, put, LatchFull, Latch, Temporary, Lowest}
 use Rattle.am9517.specs.Modes.{memory_to_memory_bit, address_hold, rotating, decrement, is_write, is_read, is_single}
 use Rattle.am9517.specs.Ranges.{valid}
-use Rattle.am9517.specs.Refusals.{refusal}
+use Rattle.am9517.specs.Refusals.{refused, refusal}
 use Rattle.am9517.specs.Serving.{picked, granted}
 use Rattle.am9517.specs.ClosedSets.{lines_of, blocks_of}
 use Rattle.am9517.specs.declared.Channel.{Channel}
 use Rattle.am9517.specs.declared.Controller.{Controller}
+use Rattle.am9517.specs.declared.refusals.Refusal.{Refusal}
 use Rattle.am9517_service.specs.declared.Counts.{Counts}
 use Rattle.am9517_service.specs.declared.Reason.{Reason}
 use Rattle.am9517_service.specs.declared.Reason.TheVariants.{Ended, Dropped, Cascade, Limit, Short}
-use Rattle.am9517_service.specs.declared.RoundAnswer.{RoundAnswer}
-use Rattle.am9517_service.specs.declared.RoundAnswer.TheVariants.{Done, Quiet, Stopped, Refused}
+use Rattle.am9517_service.specs.declared.RoundEnd.TheVariants.{Done, Quiet, Stopped}
 use Rattle.am9517_service.specs.declared.Rounded.{Rounded}
 use Rattle.am9517_service.specs.declared.spans.Span.{Span}
 use Rattle.am9517_service.specs.declared.legs.Bits.{Bits}
 use Rattle.am9517_service.specs.declared.legs.Leg.{Leg}
 use Rattle.am9517_service.specs.declared.copies.Copied.{Copied}
 use Rattle.am9517_service.specs.declared.rounds.Facts.{Facts}
-use Rattle.am9517_service.specs.declared.rounds.Alone.{Alone}
+use Rattle.am9517_service.specs.declared.bytes.Moved.{Moved}
 use Rattle.am9517_service.specs.declared.rounds.Turn.{Turn}
 use Rattle.am9517_service.specs.Counts.{counts, plus, none}
 use Rattle.am9517_service.specs.World.{World, world, memory_to_memory, stop}
@@ -39,7 +39,7 @@ use Rattle.am9517_service.specs.Transfer.{stepped, writes, reads}
 use Rattle.am9517_service.specs.Ends.{bits_of, with_bits}
 use Rattle.am9517_service.specs.States.{pace, copy_pace}
 use Rattle.am9517_service.specs.Bounds.{most_waits, most_pace, most_transfers, most_states, most_services, most_round_transfers, most_round_states}
-use Rattle.am9517_service.specs.Round.{Course, course, Close, close, beginning, run_next, with_run, nobody, is_ended, round_of}
+use Rattle.am9517_service.specs.Round.{Course, course, RoundAnswer, Close, close, beginning, run_next, with_run, nobody, is_ended, round_of}
 use Rattle.am9517_service.specs.RoundAnswers.{round_given, closed, round_grounds, rounded_of}
 use Rattle.am9517_service.specs.ClosedLegs.{address_after, current_after, states_of, counts_of, stored, loaded, leg_of}
 use Rattle.am9517_service.specs.ClosedSpans.{span_of, stays_open}
@@ -55,7 +55,8 @@ use Rattle.am9517_service.proofs.TransferLaws.{next_mul, states_most, pace_most}
 use Rattle.am9517_service.proofs.RoundLaws.{ended_is, tail_length, round_refused, round_accepted, Rolling, rolling_start, rolling_done, rolling_quiet, rolling_on, rolling_stops}
 use Rattle.am9517_service.proofs.RoundTurnLaws.{resting, AtRest, at_rest, settles, next_is, counts_same, alone_plus, led_stocked, led_few, turn_stood, still_open, stays_open_lem, leg_ended, leg_halted, turn_alone, turn_copied}
 use Rattle.am9517_service.proofs.CopySourceLaws.{source_mode}
-use Rattle.am9517_service.proofs.AloneLaws.{still_all, Made, made_all}
+use Rattle.am9517_service.proofs.AloneLaws.{one_more, still_all, Made, made_all}
+use Rattle.std.proofs.Common.{Option, Some, None, Ok, Err, is_some}
 
 abbrev pub rounded : Controller → RoundAnswer → List ℕ → Counts → Rounded
 rounded c a services n = record { controller = c; answer = a; services = services; totals = n }
@@ -96,7 +97,7 @@ looping_start k c m d r f nexts v e h size most ef en hd hr =
     }
 
 -- the answer of a round whose last leg did not end
-stopped_answer : (why : Reason) (done : Bool) → is_ended why ≡ false → answer_of why done ≡ Stopped why
+stopped_answer : (why : Reason) (done : Bool) → is_ended why ≡ false → answer_of why done ≡ Ok (Stopped why)
 stopped_answer Ended done h = never h
 stopped_answer Dropped done h = refl
 stopped_answer Cascade done h = refl
@@ -132,14 +133,14 @@ module _ (k : ℕ) (d : List ℕ) (size : ℕ) (o : Close) (f : Facts) (s : Cont
   unfolding closed when
   looping_done why e z =
       rw (e, eq-eqb _ _ z)
-      (ap (λ (x : Controller). round_given (rounded x Done services total) m r) settled_is ∙ ap closed (rolling_done d size o left (k - left) W g.rolling z))
+      (ap (λ (x : Controller). round_given (rounded x (Ok Done) services total) m r) settled_is ∙ ap closed (rolling_done d size o left (k - left) W g.rolling z))
 
   pub looping_quiet : (why : Reason) → why ≡ Ended → 0 < left → get_or nexts i 0 ≡ 4 → round_given (rounded (settled_of s i f.rotating (stays_open why)) (answer_of why (eqb left 0)) services total) m r ≡ closed o
   unfolding closed when
   looping_quiet why e h z =
       let more : left ≡ 0 → ⊥ = λ x. omega arith in
       rw (e, ne_eqb _ _ more)
-      (ap (λ (x : Controller). round_given (rounded x Quiet services total) m r) settled_is ∙ ap closed (rolling_quiet d size o left (k - left) W g.rolling h (eq-eqb _ _ (sym next_picked ∙ z))))
+      (ap (λ (x : Controller). round_given (rounded x (Ok Quiet) services total) m r) settled_is ∙ ap closed (rolling_quiet d size o left (k - left) W g.rolling h (eq-eqb _ _ (sym next_picked ∙ z))))
 
   -- A service of channel j comes next.
   module _ (more : 0 < left) (j : ℕ) (is-next : j ≡ get_or nexts i 0) (somebody : j ≡ 4 → ⊥) where
@@ -190,7 +191,7 @@ module _ (k : ℕ) (d : List ℕ) (size : ℕ) (o : Close) (f : Facts) (s : Cont
     halted v why is h x m' r' n' longs' done ec em er en =
         let there : with_run W (picked (resting s i)) (stop v why) ≡ course x m' r' services' (with_alone n' (k - (left - 1) - longs') f.pace) = behind v why ∙ rw (ec, em, er, en) refl in
         ap (λ (a : RoundAnswer). round_given (rounded x a services' (with_alone n' (k - (left - 1) - longs') f.pace)) m' r') (stopped_answer why done h)
-        ∙ ap closed (ap (λ (w : Course). close w (Stopped why)) (sym there) ∙ rolling_stops d size o left (k - left) W g.rolling more some (stop v why) is h)
+        ∙ ap closed (ap (λ (w : Course). close w (Ok (Stopped why))) (sym there) ∙ rolling_stops d size o left (k - left) W g.rolling more some (stop v why) is h)
 
 -- what the loop's test tells
 pub goes_on_lem : (left x : ℕ) → (ltb 0 left && not (eqb x 4)) ≡ true → (0 < left) × (x ≡ 4 → ⊥)
@@ -326,18 +327,17 @@ module _ (k : ℕ) (d : List ℕ) (size : ℕ) (o : Close) (f : Facts) (s : Cont
   resting_now = rest k d size o f s services n nexts longs i left m r g
 
   -- a lone transfer
-  module _ (count address : ℕ) (ec : count ≡ ch.count) (hc : count < 65536) (ea : address ≡ ch.address) (ha : address < 65536) (single : Bool) (es : single ≡ is_single ch.mode) (l : Alone) (m' r' : List ℕ)
-      (el : l.made ≡ made_alone (single && (not (eqb count 0) && not (eqb q f.copier))) ch.mode (length d - n.used) (length r - n.written))
-      (eu : l.used ≡ n.used + when (l.made && is_write ch.mode) 1 0) (ew : l.written ≡ n.written + when (l.made && is_read ch.mode) 1 0)
-      (em : m' ≡ when (l.made && is_write ch.mode) (spread (steps 16 (decrement ch.mode) address) (λ (x : ℕ). x) (drop n.used d) m 1) m)
-      (er : r' ≡ when (l.made && is_read ch.mode) (take n.written r ++ spread (λ (x : ℕ). x) (steps 16 (decrement ch.mode) address) m (drop n.written r) 1) r) where
+  module _ (count address : ℕ) (ec : count ≡ ch.count) (hc : count < 65536) (ea : address ≡ ch.address) (ha : address < 65536) (single : Bool) (es : single ≡ is_single ch.mode) (moved : Option Moved) (m' r' : List ℕ)
+      (eo : moved ≡ when (made_alone (single && (not (eqb count 0) && not (eqb q f.copier))) ch.mode (length d - n.used) (length r - n.written)) (Some (one_more n ch.mode)) None)
+      (em : m' ≡ when (is_some moved && is_write ch.mode) (spread (steps 16 (decrement ch.mode) address) (λ (x : ℕ). x) (drop n.used d) m 1) m)
+      (er : r' ≡ when (is_some moved && is_read ch.mode) (take n.written r ++ spread (λ (x : ℕ). x) (steps 16 (decrement ch.mode) address) m (drop n.written r) 1) r) where
     -- none was made: all is as it was
-    pub looping_still : l.made ≡ false → Looping k d size o f s services (counts n.transfers l.used l.written n.states) nexts longs i left m' r'
-    looping_still h = let x = still_all ch q f.copier n d m r count address ec ea single es l m' r' el eu ew em er h in rw (x.used, x.written, x.memory, x.room) g
+    pub looping_still : ((x : Moved) → moved ≡ Some x → ⊥) → Looping k d size o f s services n nexts longs i left m' r'
+    looping_still h = let x = still_all ch q f.copier n d m r count address ec ea single es moved m' r' eo em er h in rw (x.0, x.1) g
 
-    module _ (made : l.made ≡ true) where
-      told : Made ch q f.copier n d m r count address ec ea single es l m' r' el eu ew em er
-      told = made_all ch q f.copier n d m r count address ec ea single es l m' r' el eu ew em er made
+    module _ (l : Moved) (made : moved ≡ Some l) where
+      told : Made ch q f.copier n d m r count address ec ea single es moved m' r' eo em er l made
+      told = made_all ch q f.copier n d m r count address ec ea single es moved m' r' eo em er l made
 
       run_is : run_next (course (resting s i) m r services all) d
           ≡ stop (world (resting (with_channel s q (stepped ch)) q) (stored ch (drop n.used d) m 1) (loaded ch m (drop n.written r) 1) (counts_of ch 1 (pace s.command s.waits + 1))) Ended
@@ -517,9 +517,10 @@ module _ (k : ℕ) (d : List ℕ) (size : ℕ) (o : Close) (f : Facts) (s : Cont
         memory_copied (take-append-drop n.written r) totals_copied refl refl refl modes_copied el (omega (arith, g.long, g.fewer, more'))
 
 -- what a round answers that was refused, or came to its close
-pub said_refused : (c : Controller) (m d r : List ℕ) (k x' : ℕ) (x : Rounded) (z : Counts) → z ≡ none → x ≡ rounded c (Refused x') (0 ∷ 0 ∷ 0 ∷ 0 ∷ []) z → refusal (round_grounds c m k) ≡ x' → (x' ≡ 0 → ⊥) → round_given x m r ≡ rounded_of c m d r k
+pub said_refused : (c : Controller) (m d r : List ℕ) (k : ℕ) (why : Refusal) (x : Rounded) (z : Counts) → z ≡ none → x ≡ rounded c (Err why) (0 ∷ 0 ∷ 0 ∷ 0 ∷ []) z → refused (refusal (round_grounds c m k)) ≡ Some why → round_given x m r ≡ rounded_of c m d r k
 unfolding closed
-said_refused c m d r k x' x z ez ex e h = ap (λ (y : Rounded). round_given y m r) (ex ∙ ap (rounded c (Refused x') (0 ∷ 0 ∷ 0 ∷ 0 ∷ [])) ez) ∙ round_refused c m d r k x' e h
+said_refused c m d r k why x z ez ex h =
+    ap (λ (y : Rounded). round_given y m r) (ex ∙ ap (rounded c (Err why) (0 ∷ 0 ∷ 0 ∷ 0 ∷ [])) ez) ∙ round_refused c m d r k why h
 
 pub said_closed : (c : Controller) (m d r : List ℕ) (k : ℕ) (x y : Rounded) (m' r' : List ℕ) → x ≡ y → refusal (round_grounds c m k) ≡ 0 → round_given y m' r' ≡ closed (round_of k d (beginning c m r)) → round_given x m' r' ≡ rounded_of c m d r k
 said_closed c m d r k x y m' r' ex e h = ap (λ (z : Rounded). round_given z m' r') ex ∙ h ∙ sym (round_accepted c m d r k e)

@@ -1,5 +1,5 @@
 -- A turn of the round's loop is a service of the rules.
-use Prim.Native.Nat.{ℕ, ◌+◌, ◌-◌, ◌*◌, ◌≤◌, ◌<◌}
+use Prim.Native.Nat.{ℕ, ◌+◌, ◌-◌, ◌*◌, ◌≤◌, ◌<◌, min}
 use mathlib.Core.Path.{◌≡◌, refl, sym, ap, ◌∙◌}
 use mathlib.Core.Bool.{Bool, true, false, not, ◌&&◌, ◌||◌}
 use mathlib.Core.List.{List}
@@ -9,7 +9,6 @@ use lib.ListN.{length, get_or, drop, length-drop}
 use borrow.Author.Tests.{eqb-true, ne_eqb, le-leb}
 use Rattle.words.specs.Choice.{when}
 use Rattle.words.specs.Bits.{bit}
-use Rattle.words.specs.Spans.{least}
 use Rattle.am9517.specs.State.{ended}
 use Rattle.am9517.specs.Fields.{channel, blank, with_channel, put, Lowest, InService, Serving, LatchFull, Latch, Temporary}
 use Rattle.am9517.specs.Modes.{address_hold, rotating, decrement, service_bits, is_single, is_cascade, is_demand}
@@ -39,7 +38,6 @@ use Rattle.am9517_service.specs.ClosedCopies.{carried_by, route_of, copy_leg_of,
 use Rattle.am9517_service.specs.Needs.{Stocked}
 use Rattle.am9517_service.specs.ClosedRounds.{facts_of, nexts_of, with_alone, settled_of}
 use Rattle.words.proofs.ChoiceLaws.{when_both, when_same, never}
-use Rattle.words.proofs.BoundLaws.{least_some}
 use Rattle.am9517.proofs.RangeLaws.{ranges, below4}
 use Rattle.am9517.proofs.ServingLaws.{entitled_set_is, lines_same, blocks_same}
 use Rattle.am9517_service.proofs.SpanLaws.{until}
@@ -156,7 +154,7 @@ spans_open ch act bytes space =
     let P : Span → Type 0 = λ l. l.transfers ≡ 0 → is_ended l.why ≡ false in
     when_both P ((is_demand ch.mode || is_cascade ch.mode) && not act) (λ z. refl)
     (when_both P (is_cascade ch.mode) (λ z. refl)
-    (when_both P (leb (until_end (is_single ch.mode) ch.count 0) (least 65536 (stock_of ch bytes space))) (λ z. absurd (omega (arith, (until (is_single ch.mode) ch.count 0).some)))
+    (when_both P (leb (until_end (is_single ch.mode) ch.count 0) (min 65536 (stock_of ch bytes space))) (λ z. absurd (omega (arith, (until (is_single ch.mode) ch.count 0).some)))
     (λ z. when_both (λ (e : Reason). is_ended e ≡ false) (leb 65536 (stock_of ch bytes space)) refl refl)))
 
 -- one that makes some and does not end it stays open
@@ -166,7 +164,7 @@ spans_stay ch act bytes space =
     let P : Span → Type 0 = λ l. 0 < l.transfers → is_ended l.why ≡ false → stays_open l.why ≡ true in
     when_both P ((is_demand ch.mode || is_cascade ch.mode) && not act) (λ z h. absurd (omega arith))
     (when_both P (is_cascade ch.mode) (λ z h. refl)
-    (when_both P (leb (until_end (is_single ch.mode) ch.count 0) (least 65536 (stock_of ch bytes space))) (λ z h. never h)
+    (when_both P (leb (until_end (is_single ch.mode) ch.count 0) (min 65536 (stock_of ch bytes space))) (λ z h. never h)
     (λ z h. when_both (λ (e : Reason). stays_open e ≡ true) (leb 65536 (stock_of ch bytes space)) refl refl)))
 
 -- Counts with lone services among them.
@@ -281,7 +279,7 @@ module _ (s : Controller) (i j : ℕ) (rest : AtRest s) (m d r services : List �
       unfolding span_of until_end when
       alone_is =
           let one : service_bits ch.mode ≡ 1 = eqb-true _ _ single in
-          let enough : 1 ≤ least 65536 (stock_of ch (length d - total.used) (length r - total.written)) = least_some 65536 _ (omega arith) found in
+          let enough : 1 ≤ min 65536 (stock_of ch (length d - total.used) (length r - total.written)) = omega (arith, found) in
           simp (one, le-leb _ _ enough) refl
 
       last_not : eqb 1 (ch.count + 1) ≡ false

@@ -25,7 +25,7 @@ use Rattle.am9517_service.specs.declared.legs.Bits.{Bits}
 use Rattle.am9517_service.specs.declared.legs.Leg.{Leg}
 use Rattle.am9517_service.specs.declared.copies.Copied.{Copied}
 use Rattle.am9517_service.specs.declared.rounds.Facts.{Facts}
-use Rattle.am9517_service.specs.declared.rounds.Alone.{Alone}
+use Rattle.am9517_service.specs.declared.bytes.Moved.{Moved}
 use Rattle.am9517_service.specs.declared.rounds.Turn.{Turn}
 use Rattle.am9517_service.specs.declared.turns.Rota.{Rota}
 use Rattle.am9517_service.specs.declared.turns.Served.{Served}
@@ -48,8 +48,9 @@ use Rattle.am9517.proofs.KeepLaws.{modes_kept}
 use Rattle.am9517_service.proofs.GrantLaws.{picked_below}
 use Rattle.am9517_service.proofs.RoundLaws.{ended_is, tail_length, next_counted, next_left}
 use Rattle.am9517_service.proofs.RoundTurnLaws.{resting, AtRest, at_rest, next_is, counts_same, led_stocked, turn_stood, turn_led, turn_alone, turn_copied}
-use Rattle.am9517_service.proofs.AloneLaws.{still_all, made_all}
+use Rattle.am9517_service.proofs.AloneLaws.{one_more, still_all, made_all}
 use Rattle.am9517_service.proofs.RoundLoopLaws.{resting_own, facts_same, leg_mode, copy_modes, serves_device, copies_0, pace_low, plus_none}
+use Rattle.std.proofs.Common.{Option, Some, None, is_some}
 
 -- What a service keeps.
 onto : (P : ServedGiven → Type 0) (a b : ServedGiven) → a ≡ b → P b → P a
@@ -143,23 +144,22 @@ module _ (ρ : Rota) (j : ℕ) (g : Chosen ρ j) where
         ∙ ap (λ (x : Stop). served_given (record { rota = rota_of x.world.controller; why = x.reason; counts = plus n x.world.counts }) x.world.memory (take n.written r ++ x.world.room)) (sym run)
 
     -- a lone transfer
-    module _ (count address : ℕ) (ec : count ≡ (channel s j).count) (hc : count < 65536) (ea : address ≡ (channel s j).address) (ha : address < 65536) (single : Bool) (es : single ≡ is_single (channel s j).mode) (l : Alone) (m' r' : List ℕ)
-        (el : l.made ≡ made_alone (single && (not (eqb count 0) && not (eqb j ρ.facts.copier))) (channel s j).mode (length d - n.used) (length r - n.written))
-        (eu : l.used ≡ n.used + when (l.made && is_write (channel s j).mode) 1 0) (ew : l.written ≡ n.written + when (l.made && is_read (channel s j).mode) 1 0)
-        (em : m' ≡ when (l.made && is_write (channel s j).mode) (spread (steps 16 (decrement (channel s j).mode) address) (λ (x : ℕ). x) (drop n.used d) m 1) m)
-        (er : r' ≡ when (l.made && is_read (channel s j).mode) (take n.written r ++ spread (λ (x : ℕ). x) (steps 16 (decrement (channel s j).mode) address) m (drop n.written r) 1) r) where
+    module _ (count address : ℕ) (ec : count ≡ (channel s j).count) (hc : count < 65536) (ea : address ≡ (channel s j).address) (ha : address < 65536) (single : Bool) (es : single ≡ is_single (channel s j).mode) (moved : Option Moved) (m' r' : List ℕ)
+        (eo : moved ≡ when (made_alone (single && (not (eqb count 0) && not (eqb j ρ.facts.copier))) (channel s j).mode (length d - n.used) (length r - n.written)) (Some (one_more n (channel s j).mode)) None)
+        (em : m' ≡ when (is_some moved && is_write (channel s j).mode) (spread (steps 16 (decrement (channel s j).mode) address) (λ (x : ℕ). x) (drop n.used d) m 1) m)
+        (er : r' ≡ when (is_some moved && is_read (channel s j).mode) (take n.written r ++ spread (λ (x : ℕ). x) (steps 16 (decrement (channel s j).mode) address) m (drop n.written r) 1) r) where
       -- none was made
-      pub alone_still : l.made ≡ false → (m' ≡ m) × (r' ≡ r)
-      alone_still h = let x = still_all (channel s j) j ρ.facts.copier n d m r count address ec ea single es l m' r' el eu ew em er h in (x.memory, x.room)
+      pub alone_still : ((x : Moved) → moved ≡ Some x → ⊥) → (m' ≡ m) × (r' ≡ r)
+      alone_still h = still_all (channel s j) j ρ.facts.copier n d m r count address ec ea single es moved m' r' eo em er h
 
-      pub alone_served : l.made ≡ true → (x : Channel) → x ≡ stepped (channel s j) → (low : ℕ) → low ≡ when ρ.facts.rotating j s.lowest
+      pub alone_served : (l : Moved) → moved ≡ Some l → (x : Channel) → x ≡ stepped (channel s j) → (low : ℕ) → low ≡ when ρ.facts.rotating j s.lowest
           → (y : Served) → y ≡ served (put (with_channel s j x) Lowest low) ρ.facts ρ.nexts Ended (counts (n.transfers + 1) l.used l.written (n.states + ρ.facts.pace + 1)) → served_given y m' r' ≡ served_of s n m d r
-      alone_served made x ex low eo y ey =
+      alone_served l made x ex low et y ey =
           let ch = channel s j in
-          let t = made_all ch j ρ.facts.copier n d m r count address ec ea single es l m' r' el eu ew em er made in
+          let t = made_all ch j ρ.facts.copier n d m r count address ec ea single es moved m' r' eo em er l made in
           let cost : n.states + (pace s.command s.waits + 1) ≡ n.states + ρ.facts.pace + 1 =
           ap (λ (f : Facts). n.states + (f.pace + 1)) (sym facts_are) ∙ sym (add_assoc n.states ρ.facts.pace 1) in
-          rw (ey, ex, eo)
+          rw (ey, ex, et)
           (comes_to_lem _ Ended (turn_alone s s.lowest j rest m d r [] n who (rw (sym ea) ha) (rw (sym ec) hc) (device t.device) t.alone t.more t.found)
           (put (with_channel s j (stepped ch)) Lowest (when ρ.facts.rotating j s.lowest)) ρ.nexts _ m' r'
           (ap (λ (f : Facts). put (with_channel s j (stepped ch)) Lowest (when f.rotating j s.lowest)) (sym facts_are))

@@ -1,15 +1,14 @@
 -- What a call of run gives, for all inputs: its answer, and the memory and the room as it leaves them.
-use Rattle.std.specs.Prelude.{ℕ, Bool, not, List, [], ◌∷◌, eqb, length}
+use Rattle.std.specs.Prelude.{ℕ, Bool, not, Result, Ok, Err, List, [], ◌∷◌, eqb, length}
 use Prim.Native.String.{String}
 use Rattle.words.specs.Choice.{when}
 use Rattle.words.specs.Grounds.{Ground, ◌if◌}
 use Rattle.am9517.specs.Ranges.{valid}
-use Rattle.am9517.specs.Refusals.{refusal, idle}
+use Rattle.am9517.specs.Refusals.{number_of, numbered, refusal, idle}
 use Rattle.am9517.specs.declared.Controller.{Controller}
+use Rattle.am9517.specs.declared.refusals.Refusal.{Refusal}
 use Rattle.am9517_service.specs.declared.Reason.{Reason}
 use Rattle.am9517_service.specs.declared.Reason.TheVariants.{Ended, Dropped, Cascade, Limit, Short}
-use Rattle.am9517_service.specs.declared.RunAnswer.{RunAnswer}
-use Rattle.am9517_service.specs.declared.RunAnswer.TheVariants.{Stopped, Refused}
 use Rattle.am9517_service.specs.declared.Ran.{Ran}
 use Rattle.am9517_service.specs.Counts.{none}
 use Rattle.am9517_service.specs.World.{start_of, Stop}
@@ -24,9 +23,12 @@ word_of Cascade = "cascade"
 word_of Limit = "limit"
 word_of Short = "short"
 
+abbrev pub RunAnswer : Type 0
+RunAnswer = Result Reason Refusal
+
 abbrev pub run_refusal_number : RunAnswer → ℕ
-run_refusal_number (Stopped e) = 0
-run_refusal_number (Refused n) = n
+run_refusal_number (Ok why) = 0
+run_refusal_number (Err r) = number_of r
 
 pub record Given : Type 0 where
   pub ran : Ran
@@ -41,12 +43,12 @@ unfoldable pub stopped : Stop → Given
 stopped s =
     let w = s.world in
     given
-    (record { controller = w.controller; answer = Stopped s.reason; counts = w.counts })
+    (record { controller = w.controller; answer = Ok s.reason; counts = w.counts })
     w.memory w.room
 
 -- "Each returns its number only, and state, memory and buffers stay."
 abbrev pub refused_of : Controller → ℕ → Ran
-refused_of c n = record { controller = c; answer = Refused n; counts = none }
+refused_of c n = record { controller = c; answer = Err (numbered n); counts = none }
 
 -- 7 "memory not of 65,536 bytes"; 8 "run with no service open"; "run 1, 7, 8"
 abbrev pub wrong_size : List ℕ → Bool

@@ -1,9 +1,9 @@
 -- A leg of memory-to-memory, in closed form. What a run is, Run.antt says.
-use Rattle.std.specs.Prelude.{ℕ, ◌+◌, ◌-◌, ◌*◌, Bool, true, false, ◌||◌, List, eqb, ltb, get_or}
+use Rattle.std.specs.Prelude.{ℕ, ◌+◌, ◌-◌, ◌*◌, Bool, true, false, ◌||◌, List, eqb, ltb, get_or, min}
 use Rattle.words.specs.Choice.{when}
 use Rattle.words.specs.Bits.{with_bit}
 use Rattle.words.specs.Steps.{steps}
-use Rattle.words.specs.Spans.{least, reach_of, carried}
+use Rattle.words.specs.Spans.{reach_of, carried}
 use Rattle.am9517.specs.Fields.{channel, with_channel, put, InService, LatchFull, Latch, Temporary}
 use Rattle.am9517.specs.Modes.{address_hold, autoinitialize, decrement}
 use Rattle.am9517.specs.declared.Channel.{Channel}
@@ -40,8 +40,8 @@ carried_along ρ m n = carried (steps 16 ρ.to_down ρ.to) (λ (j : ℕ). (sourc
 -- of n bytes along a route, how many are moved before an address turns over: the target's, and the source's unless it is held
 unfoldable pub straight_of : Route → ℕ → ℕ
 straight_of ρ n =
-    let target = least n (reach_of 65536 ρ.to_down ρ.to) in
-    when ρ.hold target (least target (reach_of 65536 (decrement ρ.source.mode) ρ.source.address))
+    let target = min n (reach_of 65536 ρ.to_down ρ.to) in
+    when ρ.hold target (min target (reach_of 65536 (decrement ρ.source.mode) ρ.source.address))
 
 -- the route n bytes on, where channel 0 isn't restored
 abbrev pub farther : Route → ℕ → Route

@@ -1,5 +1,5 @@
 -- What the loop of a round keeps, in closed form. What a round is, Round.antt says.
-use Rattle.std.specs.Prelude.{ℕ, ◌+◌, ◌*◌, Bool, true, not, ◌&&◌, List, [], ◌∷◌, eqb}
+use Rattle.std.specs.Prelude.{ℕ, ◌+◌, ◌*◌, Bool, true, not, ◌&&◌, Ok, List, [], ◌∷◌, eqb}
 use Rattle.words.specs.Choice.{when}
 use Rattle.am9517.specs.Fields.{with_channel, put, InService, Serving, LatchFull, Latch, Lowest}
 use Rattle.am9517.specs.Modes.{memory_to_memory_bit, address_hold, rotating, is_write, is_read}
@@ -10,8 +10,8 @@ use Rattle.am9517.specs.declared.Controller.{Controller}
 use Rattle.am9517_service.specs.declared.Counts.{Counts}
 use Rattle.am9517_service.specs.declared.Reason.{Reason}
 use Rattle.am9517_service.specs.declared.Reason.TheVariants.{Ended, Dropped, Cascade, Limit, Short}
-use Rattle.am9517_service.specs.declared.RoundAnswer.{RoundAnswer}
-use Rattle.am9517_service.specs.declared.RoundAnswer.TheVariants.{Done, Quiet, Stopped}
+use Rattle.am9517_service.specs.declared.RoundEnd.TheVariants.{Done, Quiet, Stopped}
+use Rattle.am9517_service.specs.Round.{RoundAnswer}
 use Rattle.am9517_service.specs.declared.legs.Bits.{Bits}
 use Rattle.am9517_service.specs.declared.rounds.Facts.{Facts}
 use Rattle.am9517_service.specs.declared.rounds.Turn.{Turn}
@@ -54,11 +54,11 @@ settled_of s i turns stays = put (put (put s InService (when stays 1 0)) Serving
 
 -- how a round closes whose last leg stopped so
 abbrev pub answer_of : Reason → Bool → RoundAnswer
-answer_of Ended done = when done Done Quiet
-answer_of Dropped done = Stopped Dropped
-answer_of Cascade done = Stopped Cascade
-answer_of Limit done = Stopped Limit
-answer_of Short done = Stopped Short
+answer_of Ended done = Ok (when done Done Quiet)
+answer_of Dropped done = Ok (Stopped Dropped)
+answer_of Cascade done = Ok (Stopped Cascade)
+answer_of Limit done = Ok (Stopped Limit)
+answer_of Short done = Ok (Stopped Short)
 
 -- the service of channel i whose leg left u and stopped so; where it stays open, its address is latched
 abbrev pub turned_of : Rota → ℕ → Turn → Reason → Served

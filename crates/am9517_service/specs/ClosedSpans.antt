@@ -1,7 +1,6 @@
 -- How far a leg of a service goes and why it stops there, in closed form. What a run is, Run.antt says.
-use Rattle.std.specs.Prelude.{ℕ, ◌+◌, Bool, true, false, not, ◌&&◌, ◌||◌, eqb, leb}
+use Rattle.std.specs.Prelude.{ℕ, ◌+◌, Bool, true, false, not, ◌&&◌, ◌||◌, eqb, leb, min}
 use Rattle.words.specs.Choice.{when}
-use Rattle.words.specs.Spans.{least}
 use Rattle.am9517.specs.Modes.{is_demand, is_single, is_cascade}
 use Rattle.am9517.specs.declared.Channel.{Channel}
 use Rattle.am9517_service.specs.declared.Reason.{Reason}
@@ -11,7 +10,7 @@ use Rattle.am9517_service.specs.Transfer.{writes, reads}
 
 -- the transfers up to the one that ends the service: at a single one's first, at TC, or at EOP
 unfoldable pub until_end : Bool → ℕ → ℕ → ℕ
-until_end once count eop = when once 1 (when (eqb eop 0) (count + 1) (least eop (count + 1)))
+until_end once count eop = when once 1 (when (eqb eop 0) (count + 1) (min eop (count + 1)))
 
 -- the transfers that the device's bytes or its room last for
 unfoldable pub stock_of : Channel → ℕ → ℕ → ℕ
@@ -31,7 +30,7 @@ span_of ch active bytes space limit eop =
     let most = until_end (is_single ch.mode) ch.count eop in
     when ((is_demand ch.mode || is_cascade ch.mode) && not active) (span 0 Dropped)
     (when (is_cascade ch.mode) (span 0 Cascade)
-    (when (leb most (least limit stock)) (span most Ended) (span (least limit stock) (halt limit stock))))
+    (when (leb most (min limit stock)) (span most Ended) (span (min limit stock) (halt limit stock))))
 
 abbrev pub stays_open : Reason → Bool
 stays_open Ended = false

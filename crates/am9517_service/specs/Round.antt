@@ -1,5 +1,5 @@
 -- "A round begins up to k services (0 to 4,096), grant then run, limit 65,536, no EOP."
-use Rattle.std.specs.Prelude.{ℕ, zero, suc, ◌+◌, Bool, true, false, not, List, [], ◌∷◌, ◌++◌, eqb, get_or, set, take, drop}
+use Rattle.std.specs.Prelude.{ℕ, zero, suc, ◌+◌, Bool, true, false, not, Result, Ok, List, [], ◌∷◌, ◌++◌, eqb, get_or, set, take, drop}
 use Rattle.words.specs.Grounds.{◌if◌, first}
 use Rattle.am9517.specs.Serving.{picked, granted}
 use Rattle.am9517.specs.declared.Controller.{Controller}
@@ -9,8 +9,9 @@ use Rattle.am9517_service.specs.declared.Counts.{Counts}
 use Rattle.am9517_service.specs.Counts.{none, plus}
 use Rattle.am9517_service.specs.World.{Stop, start_of}
 use Rattle.am9517_service.specs.Run.{run_of}
-use Rattle.am9517_service.specs.declared.RoundAnswer.{RoundAnswer}
-use Rattle.am9517_service.specs.declared.RoundAnswer.TheVariants.{Done, Quiet, Stopped}
+use Rattle.am9517.specs.declared.refusals.Refusal.{Refusal}
+use Rattle.am9517_service.specs.declared.RoundEnd.{RoundEnd}
+use Rattle.am9517_service.specs.declared.RoundEnd.TheVariants.{Done, Quiet, Stopped}
 
 -- What a round changes, and what it counts: services begun per channel, and the totals.
 pub record Course : Type 0 where
@@ -54,6 +55,10 @@ is_ended Cascade = false
 is_ended Limit = false
 is_ended Short = false
 
+-- how a round went: it stopped so, or was refused
+abbrev pub RoundAnswer : Type 0
+RoundAnswer = Result RoundEnd Refusal
+
 -- where a round stops, and why
 pub record Close : Type 0 where
   pub course : Course
@@ -65,8 +70,8 @@ close w a = record { course = w; answer = a }
 -- with `remaining` more services to begin: "It stops, in this order after each run: not "ended" (its reason); k begun ("done");
 -- nobody entitled ("quiet"). Before the first, k = 0 is "done" and comes before quiet."
 unfoldable pub round_of : ℕ → List ℕ → Course → Close
-round_of zero d w = close w Done
+round_of zero d w = close w (Ok Done)
 round_of (suc remaining) d w =
-    first (close w Quiet if nobody w.controller ∷ [])
-    (first (close (after_next w d) (Stopped (run_next w d).reason) if not (is_ended (run_next w d).reason) ∷ [])
+    first (close w (Ok Quiet) if nobody w.controller ∷ [])
+    (first (close (after_next w d) (Ok (Stopped (run_next w d).reason)) if not (is_ended (run_next w d).reason) ∷ [])
     (round_of remaining d (after_next w d)))

@@ -1,29 +1,26 @@
 -- What a call of round gives, for all inputs.
-use Rattle.std.specs.Prelude.{ℕ, not, List, [], ◌∷◌, eqb, ltb}
+use Rattle.std.specs.Prelude.{ℕ, not, Ok, Err, List, [], ◌∷◌, eqb, ltb}
 use Prim.Native.String.{String}
 use Rattle.words.specs.Choice.{when}
 use Rattle.words.specs.Grounds.{Ground, ◌if◌}
 use Rattle.am9517.specs.Ranges.{valid}
-use Rattle.am9517.specs.Refusals.{refusal, busy}
+use Rattle.am9517.specs.Refusals.{number_of, numbered, refusal, busy}
 use Rattle.am9517.specs.declared.Controller.{Controller}
 use Rattle.am9517_service.specs.Answers.{word_of, wrong_size}
-use Rattle.am9517_service.specs.declared.RoundAnswer.{RoundAnswer}
-use Rattle.am9517_service.specs.declared.RoundAnswer.TheVariants.{Done, Quiet, Stopped, Refused}
+use Rattle.am9517_service.specs.declared.RoundEnd.TheVariants.{Done, Quiet, Stopped}
 use Rattle.am9517_service.specs.declared.Rounded.{Rounded}
-use Rattle.am9517_service.specs.Round.{beginning, Close, close, round_of}
+use Rattle.am9517_service.specs.Round.{beginning, RoundAnswer, Close, close, round_of}
 
 -- this paper's word of each answer, and its refusal number, 0 for none
 abbrev pub round_word_of : RoundAnswer → String
-round_word_of Done = "done"
-round_word_of Quiet = "quiet"
-round_word_of (Stopped e) = word_of e
-round_word_of (Refused n) = ""
+round_word_of (Ok Done) = "done"
+round_word_of (Ok Quiet) = "quiet"
+round_word_of (Ok (Stopped e)) = word_of e
+round_word_of (Err r) = ""
 
 abbrev pub round_refusal_number : RoundAnswer → ℕ
-round_refusal_number Done = 0
-round_refusal_number Quiet = 0
-round_refusal_number (Stopped e) = 0
-round_refusal_number (Refused n) = n
+round_refusal_number (Ok end) = 0
+round_refusal_number (Err r) = number_of r
 
 pub record RoundGiven : Type 0 where
   pub rounded : Rounded
@@ -49,4 +46,4 @@ round_grounds c m k = 1 if not (valid c) ∷ 2 if ltb 4096 k ∷ 7 if wrong_size
 unfoldable pub rounded_of : Controller → List ℕ → List ℕ → List ℕ → ℕ → RoundGiven
 rounded_of c m d r k =
     let n = refusal (round_grounds c m k) in
-    when (eqb n 0) (closed (round_of k d (beginning c m r))) (closed (close (beginning c m r) (Refused n)))
+    when (eqb n 0) (closed (round_of k d (beginning c m r))) (closed (close (beginning c m r) (Err (numbered n))))

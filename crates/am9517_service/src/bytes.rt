@@ -60,6 +60,7 @@ pub struct Moved {
 }
 
 // The same of a later service: lent the device bytes not yet used, and the room behind the last byte written.
+#[tactic(auto, unfolding(crate::specs::ClosedLegs::address_after, words::specs::Choice::when))]
 pub(crate) fn move_on(
     ch: Channel,
     memory: &mut [u8],

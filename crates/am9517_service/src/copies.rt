@@ -1,8 +1,8 @@
 // A leg of memory-to-memory.
-ghost use Rattle.std.specs.Prelude.{◌≡◌, true, ℕ, ◌≤◌, ◌<◌, length};
+ghost use Rattle.std.specs.Prelude.{◌≡◌, true, ℕ, ◌≤◌, ◌<◌, length, min};
 ghost use Rattle.words.specs.Choice.{when};
 ghost use Rattle.words.specs.Steps.{steps};
-ghost use Rattle.words.specs.Spans.{least, carried};
+ghost use Rattle.words.specs.Spans.{carried};
 ghost use Rattle.am9517_service.specs.Bounds.{most_transfers};
 ghost use Rattle.am9517_service.specs.Copy.{source_after};
 ghost use Rattle.am9517_service.specs.ClosedCopies.{source_on, restored, restores, carried_along, carried_by, straight_of, farther, begun, beginning_again, route_of, copy_leg_of, last_byte};
@@ -13,8 +13,8 @@ use crate::transfers::address_after;
 use am9517::Channel;
 use am9517::modes::{autoinitialize, decrement};
 use words::bits::with_bit;
-use words::choice::{when, when_size, when_word};
-use words::spans::{carry, fill, lesser, reach};
+use words::choice::when;
+use words::spans::{carry, fill, reach};
 use words::steps::steps;
 
 // Where the bytes of memory-to-memory come from and go to: channel 0's record, held or not, and channel 1's address and direction.
@@ -51,7 +51,7 @@ fn source_on(hold: bool, source: Channel, n: u64) -> Channel
     ensures { result ≡ source_on hold source n }
 {
     let mut next = source;
-    next.address = when_word(hold, source.address, address_after(source, n));
+    next.address = when(hold, source.address, address_after(source, n));
     next.count = steps(source.count, true, n);
     next
 }
@@ -94,15 +94,12 @@ fn restores(source: Channel, n: u64) -> bool
 fn straight(route: Route, n: usize) -> usize
     ensures { result ≡ straight_of route n }
 {
-    let target = lesser(n, reach(65536, route.to_down, route.to as usize));
+    let target = n.min(reach(65536, route.to_down, route.to as usize));
     if route.hold {
         return target;
     }
     let source = route.source;
-    lesser(
-        target,
-        reach(65536, decrement(source.mode), source.address as usize),
-    )
+    target.min(reach(65536, decrement(source.mode), source.address as usize))
 }
 
 // The first n bytes of a route, where no address turns over.
@@ -163,12 +160,12 @@ fn begun(route: Route, source: Channel) -> Route
 
 // How many of `left` bytes come next, where `until` more come before the source begins again: one where they go one by one.
 fn piece_of(route: Route, each: bool, until: usize, left: usize) -> usize
-    ensures { result ≡ when each 1 (least (straight_of route left) until) }
+    ensures { result ≡ when each 1 (min (straight_of route left) until) }
 {
     if each {
         return 1;
     }
-    lesser(straight(route, left), until)
+    straight(route, left).min(until)
 }
 
 // The first n bytes of a route, where no address turns over: one by itself, or as many as there are.
@@ -231,11 +228,12 @@ fn carry_restoring(source: Channel, target: Channel, hold: bool, memory: &mut [u
     lay(route, first, memory, first);
     let again = beginning_again(route, first as u64);
     // a held source never begins again: no service has more bytes
-    let area = when_size(again.hold, 65536, again.source.count as usize + 1);
+    let area = when(again.hold, 65536, again.source.count as usize + 1);
     lay(again, area, memory, n as usize - first);
 }
 
 // The leg of n transfers, at least one: channel 1's own, and channel 0's record and request bit.
+#[tactic(auto, unfolding(crate::specs::ClosedCopies::copy_leg_of))]
 pub(crate) fn copy_leg(
     edition: u8,
     source: Channel,

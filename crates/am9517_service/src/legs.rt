@@ -10,7 +10,7 @@ use am9517::editions::is_intel;
 use am9517::modes::autoinitialize;
 use words::bits::with_bit;
 use words::bytes::high_byte;
-use words::choice::{when, when_word};
+use words::choice::when;
 
 // The bits of the channels that a service may change.
 #[derive(Clone, Copy)]
@@ -52,12 +52,13 @@ pub fn channel_after(ch: Channel) -> Channel
 {
     let again = autoinitialize(ch.mode);
     let mut next = ch;
-    next.address = when_word(again, ch.base_address, ch.address);
-    next.count = when_word(again, ch.base_count, ch.count);
+    next.address = when(again, ch.base_address, ch.address);
+    next.count = when(again, ch.base_count, ch.count);
     next
 }
 
 // The leg of channel i of n transfers, at least one.
+#[tactic(auto, unfolding(crate::specs::ClosedLegs::leg_of, words::specs::Choice::when))]
 pub(crate) fn leg_of(
     edition: u8,
     i: usize,

@@ -1,7 +1,7 @@
 // Services over lent memory, device bytes and device room: a run of one, and a round of up to k.
 #![tactic(auto)]
 
-use am9517::Controller;
+use am9517::{Controller, Refusal};
 
 mod bytes;
 mod copies;
@@ -14,11 +14,11 @@ mod turns;
 
 pub use legs::{Bits, bits_after, channel_after};
 pub use rounds::{Facts, is_ended, round};
-pub use runs::{run, run_refusal};
+pub use runs::{bits_of, is_copy, run, run_refusal};
 pub use turns::{Rota, Served, next_of, rota_of, serve};
 
 // Why a run stopped.
-#[derive(Clone, Copy)]
+#[derive(Clone, Copy, PartialEq, Eq)]
 pub enum Reason {
     Ended,
     Dropped,
@@ -36,12 +36,8 @@ pub struct Counts {
     pub states: u64,
 }
 
-// How a run went: it stopped for a reason, or was refused by a number.
-#[derive(Clone, Copy)]
-pub enum RunAnswer {
-    Stopped(Reason),
-    Refused(u8),
-}
+// How a run went: it stopped for a reason, or was refused.
+pub type RunAnswer = Result<Reason, Refusal>;
 
 // The next state, the answer, and what was counted; after a refusal the state as it was, and zeros.
 #[derive(Clone, Copy)]
@@ -51,14 +47,16 @@ pub struct Ran {
     pub counts: Counts,
 }
 
-// Why a round stopped: k services begun, nobody entitled, a run that did not end; or the number of its refusal.
-#[derive(Clone, Copy)]
-pub enum RoundAnswer {
+// Why a round stopped: k services begun, nobody entitled, or a run that did not end.
+#[derive(Clone, Copy, PartialEq, Eq)]
+pub enum RoundEnd {
     Done,
     Quiet,
     Stopped(Reason),
-    Refused(u8),
 }
+
+// How a round went: it stopped so, or was refused.
+pub type RoundAnswer = Result<RoundEnd, Refusal>;
 
 // The next state, the answer, the services begun per channel and the totals.
 #[derive(Clone, Copy)]

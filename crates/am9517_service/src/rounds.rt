@@ -1,10 +1,10 @@
 // A round: up to k services, each granted and run.
-ghost use Rattle.std.specs.Prelude.{◌≡◌, ◌&&◌, ◌++◌, ℕ, ◌+◌, ◌-◌, ◌*◌, ◌^◌, ◌≤◌, ◌<◌, length, take, drop};
+ghost use Rattle.std.specs.Prelude.{◌≡◌, Some, None, is_some, ◌&&◌, ◌++◌, ℕ, ◌+◌, ◌-◌, ◌*◌, ◌^◌, ◌≤◌, ◌<◌, length, take, drop};
 ghost use Rattle.words.specs.Choice.{when};
 ghost use Rattle.words.specs.Steps.{steps};
 ghost use Rattle.words.specs.Spans.{spread};
 ghost use Rattle.am9517.specs.Modes.{decrement, is_write, is_read};
-ghost use Rattle.am9517.specs.Refusals.{refusal};
+ghost use Rattle.am9517.specs.Refusals.{refused, refusal};
 ghost use Rattle.am9517_service.specs.Round.{is_ended};
 ghost use Rattle.am9517_service.specs.RoundAnswers.{round_given, round_refusal_number, round_grounds, rounded_of};
 ghost use Rattle.am9517_service.specs.Bounds.{most_pace, most_states, most_services};
@@ -14,27 +14,27 @@ ghost use Rattle.am9517_service.specs.ClosedSpans.{stays_open};
 ghost use Rattle.am9517_service.specs.Needs.{Stocked};
 ghost use Rattle.am9517_service.specs.ClosedRounds.{facts_of, nexts_of, made_alone, turn_of, with_alone, settled_of, answer_of};
 
-use crate::bytes::{bring, fetch, move_on};
+use crate::bytes::{Moved, bring, fetch, move_on};
 use crate::copies::{copy_bytes, copy_leg};
 use crate::legs::{Bits, leg_of};
 use crate::runs::{bits_of, copied_counts, no_counts, pace_of, stays_open};
 use crate::spans::span_of;
-use crate::{Counts, Reason, RoundAnswer, Rounded};
+use crate::{Counts, Reason, RoundAnswer, RoundEnd, Rounded};
 use am9517::modes::{
     address_hold, decrement, is_read, is_single, is_write, memory_to_memory_bit, rotating,
 };
-use am9517::{Channel, Controller, entitled_of, picked_from};
+use am9517::{Channel, Controller, Refusal, entitled_of, picked_from};
 use words::bits::bit;
-use words::choice::{when, when_size};
+use words::choice::when;
 use words::steps::step;
 
-fn round_refusal(c: Controller, memory: &[u8], k: u32) -> u8
-    ensures { result ≡ refusal (round_grounds c memory.now k) }
+fn round_refusal(c: Controller, memory: &[u8], k: u32) -> Option<Refusal>
+    ensures { result ≡ refused (refusal (round_grounds c memory.now k)) }
 {
-    let no = when(c.in_service != 0, 3, 0);
-    let no = when(memory.len() != 65536, 7, no);
-    let no = when(4096 < k, 2, no);
-    when(!c.valid(), 1, no)
+    let refusal = when(c.in_service != 0, Some(Refusal::InService), None);
+    let refusal = when(memory.len() != 65536, Some(Refusal::Memory), refusal);
+    let refusal = when(4096 < k, Some(Refusal::TooLarge), refusal);
+    when(!c.valid(), Some(Refusal::Range), refusal)
 }
 
 // What a round needs of the command, the wait states, the pins and the modes, which stay.
@@ -56,7 +56,7 @@ pub(crate) fn facts_of(c: Controller) -> Facts
     let pace = pace_of(c.command, c.waits);
     Facts {
         rotating: rotating(c.command),
-        copier: when_size(memory_to_memory_bit(c.command), 0, 4),
+        copier: when(memory_to_memory_bit(c.command), 0, 4),
         hold: address_hold(c.command),
         pace,
         lines: c.lines(),
@@ -66,6 +66,7 @@ pub(crate) fn facts_of(c: Controller) -> Facts
 }
 
 // Who is next behind each channel served last.
+#[tactic(auto, unfolding(crate::specs::ClosedRounds::nexts_of, words::specs::Choice::when))]
 pub(crate) fn nexts_of(f: Facts, mask: u8, request: u8) -> [u8; 4]
     ensures { result ≡ nexts_of f mask request }
 {
@@ -106,15 +107,7 @@ pub(crate) fn bounded_channel(ch: Channel) -> Channel
     ch
 }
 
-// A single transfer that meets no TC: whether it was made, and the device bytes used and written.
-#[derive(Clone, Copy)]
-pub struct Alone {
-    pub made: bool,
-    pub used: usize,
-    pub written: usize,
-}
-
-// The transfer of a service that may make one alone, if it finds its byte or its place.
+// The transfer of a service that may make one alone, which meets no TC, if it finds its byte or its place.
 pub(crate) fn transfer_alone(
     may: bool,
     mode: u8,
@@ -123,11 +116,11 @@ pub(crate) fn transfer_alone(
     memory: &mut [u8],
     device: &[u8],
     room: &mut [u8],
-) -> Alone
+) -> Option<Moved>
     requires { (length memory.old ≡ 65536) × (n.used ≤ length device.now) × (n.written ≤ length room.old) }
-    ensures made_value { (result.made ≡ made_alone may mode (length device.now - n.used) (length room.old - n.written)) × (result.used ≡ n.used + when (result.made && is_write mode) 1 0) × (result.written ≡ n.written + when (result.made && is_read mode) 1 0) }
-    ensures memory { memory.new ≡ when (result.made && is_write mode) (spread (steps 16 (decrement mode) address) (λ (j : ℕ). j) (drop n.used device.now) memory.old 1) memory.old }
-    ensures room { room.new ≡ when (result.made && is_read mode) (take n.written room.old ++ spread (λ (j : ℕ). j) (steps 16 (decrement mode) address) memory.old (drop n.written room.old) 1) room.old }
+    ensures made_value { result ≡ when (made_alone may mode (length device.now - n.used) (length room.old - n.written)) (Some (record { used = n.used + when (is_write mode) 1 0; written = n.written + when (is_read mode) 1 0 })) None }
+    ensures memory { memory.new ≡ when (is_some result && is_write mode) (spread (steps 16 (decrement mode) address) (λ (j : ℕ). j) (drop n.used device.now) memory.old 1) memory.old }
+    ensures room { room.new ≡ when (is_some result && is_read mode) (take n.written room.old ++ spread (λ (j : ℕ). j) (steps 16 (decrement mode) address) memory.old (drop n.written room.old) 1) room.old }
 {
     let used = n.used;
     let written = n.written;
@@ -136,34 +129,24 @@ pub(crate) fn transfer_alone(
         if is_read(mode) {
             if written < room.len() {
                 fetch(mode, address, memory, &mut room[written..], 1);
-                return Alone {
-                    made: true,
+                return Some(Moved {
                     used,
                     written: written + 1,
-                };
+                });
             }
         } else if is_write(mode) {
             if used < device.len() {
                 bring(mode, address, memory, &device[used..], 1);
-                return Alone {
-                    made: true,
+                return Some(Moved {
                     used: used + 1,
                     written,
-                };
+                });
             }
         } else {
-            return Alone {
-                made: true,
-                used,
-                written,
-            };
+            return Some(Moved { used, written });
         }
     }
-    Alone {
-        made: false,
-        used,
-        written,
-    }
+    None
 }
 
 // The channel after one transfer.
@@ -226,30 +209,16 @@ pub(crate) fn turn_of(
 fn answer_of(why: Reason, done: bool) -> RoundAnswer
     ensures { result ≡ answer_of why done }
 {
-    match why {
-        Reason::Ended => {
-            if done {
-                return RoundAnswer::Done;
-            }
-            RoundAnswer::Quiet
-        }
-        Reason::Dropped => RoundAnswer::Stopped(why),
-        Reason::Cascade => RoundAnswer::Stopped(why),
-        Reason::Limit => RoundAnswer::Stopped(why),
-        Reason::Short => RoundAnswer::Stopped(why),
+    if why != Reason::Ended {
+        return Ok(RoundEnd::Stopped(why));
     }
+    Ok(when(done, RoundEnd::Done, RoundEnd::Quiet))
 }
 
 pub fn is_ended(why: Reason) -> bool
     ensures { result ≡ is_ended why }
 {
-    match why {
-        Reason::Ended => true,
-        Reason::Dropped => false,
-        Reason::Cascade => false,
-        Reason::Limit => false,
-        Reason::Short => false,
-    }
+    why == Reason::Ended
 }
 
 // The totals with the lone services, which were not counted one by one: each a transfer, and its states.
@@ -324,11 +293,10 @@ pub fn round(c: Controller, memory: &mut [u8], device: &[u8], room: &mut [u8], k
     ensures { (round_given result memory.new room.new ≡ rounded_of c memory.old device.now room.old k) × (round_refusal_number result.answer ≡ refusal (round_grounds c memory.old k)) }
 {
     let mut s = c;
-    let no = round_refusal(s, memory, k);
     let mut services: [u32; 4] = [0, 0, 0, 0];
     let mut n = no_counts();
-    if no != 0 {
-        return closed(s, RoundAnswer::Refused(no), services, n);
+    if let Some(refusal) = round_refusal(s, memory, k) {
+        return closed(s, Err(refusal), services, n);
     }
     let f = facts_of(s);
     let mut nexts = nexts_of(f, s.mask, s.request);
@@ -344,10 +312,9 @@ pub fn round(c: Controller, memory: &mut [u8], device: &[u8], room: &mut [u8], k
         let address = bounded(s.channels[i].address);
         // The parentheses save a single service 3 to 12 instructions.
         let may = is_single(mode) & ((count != 0) & (i != f.copier));
-        let l = transfer_alone(may, mode, address, n, memory, device, room);
-        n.used = l.used;
-        n.written = l.written;
-        if l.made {
+        if let Some(moved) = transfer_alone(may, mode, address, n, memory, device, room) {
+            n.used = moved.used;
+            n.written = moved.written;
             s.channels[i] = stepped(s.channels[i]);
         } else {
             longs += 1;

@@ -1,10 +1,9 @@
 // A run of the open service.
-ghost use Rattle.std.specs.Prelude.{◌≡◌, true, List, ℕ, ◌+◌, ◌*◌, ◌^◌, ◌≤◌, ◌<◌, length};
+ghost use Rattle.std.specs.Prelude.{◌≡◌, true, Ok, Err, List, ℕ, ◌+◌, ◌*◌, ◌^◌, ◌≤◌, ◌<◌, length};
 ghost use Rattle.words.specs.Choice.{when};
 ghost use Rattle.am9517.specs.State.{ended};
 ghost use Rattle.am9517.specs.Fields.{channel};
-ghost use Rattle.am9517.specs.Refusals.{refusal};
-ghost use Rattle.am9517_service.specs.declared.RunAnswer.TheVariants.{Stopped};
+ghost use Rattle.am9517.specs.Refusals.{refused, refusal};
 ghost use Rattle.am9517_service.specs.Counts.{counts, none, plus};
 ghost use Rattle.am9517_service.specs.World.{memory_to_memory, start_of, stop};
 ghost use Rattle.am9517_service.specs.States.{pace, copy_pace, needs_s1};
@@ -12,7 +11,7 @@ ghost use Rattle.am9517_service.specs.Bounds.{most_pace, most_copy_pace, most_tr
 ghost use Rattle.am9517_service.specs.Transfer.{writes, reads};
 ghost use Rattle.am9517_service.specs.Ends.{bits_of};
 ghost use Rattle.am9517_service.specs.Run.{run_of};
-ghost use Rattle.am9517_service.specs.Answers.{given, run_refusal_number, stopped, refused_of, run_grounds, ran_of};
+ghost use Rattle.am9517_service.specs.Answers.{given, run_refusal_number, stopped, run_grounds, ran_of};
 ghost use Rattle.am9517_service.specs.ClosedLegs.{counts_of, leg_of, after_leg};
 ghost use Rattle.am9517_service.specs.ClosedSpans.{stays_open};
 ghost use Rattle.am9517_service.specs.ClosedCopies.{after_copy};
@@ -22,10 +21,10 @@ use crate::copies::{Copied, copy_bytes, copy_leg};
 use crate::legs::{Bits, Leg, leg_of};
 use crate::spans::{copy_span, span_of};
 use crate::transfers::{needs_s1, sixteen_bits};
-use crate::{Counts, Ran, Reason, RunAnswer};
+use crate::{Counts, Ran, Reason};
 use am9517::modes::{address_hold, compressed, is_read, is_write, memory_to_memory_bit};
-use am9517::{Channel, Controller};
-use words::choice::{when, when_long, when_size};
+use am9517::{Channel, Controller, Refusal};
+use words::choice::when;
 
 pub(crate) fn no_counts() -> Counts
     ensures { result ≡ none }
@@ -46,13 +45,14 @@ pub(crate) fn counted(was: Counts, ch: Channel, n: u64, states: u64) -> Counts
     let size = n as usize;
     Counts {
         transfers: was.transfers + n,
-        used: was.used + when_size(is_write(ch.mode), size, 0),
-        written: was.written + when_size(is_read(ch.mode), size, 0),
+        used: was.used + when(is_write(ch.mode), size, 0),
+        written: was.written + when(is_read(ch.mode), size, 0),
         states: was.states + states,
     }
 }
 
 // The states of a transfer of memory-to-memory.
+#[tactic(auto, unfolding(crate::specs::States::copy_pace))]
 fn copy_pace_of(waits: u8) -> u64
     ensures { (result ≡ copy_pace waits) × (result ≤ most_copy_pace) }
 {
@@ -73,46 +73,49 @@ pub(crate) fn copied_counts(was: Counts, n: u64, waits: u8) -> Counts
     }
 }
 
-fn refused(c: Controller, number: u8) -> Ran
-    ensures { result ≡ refused_of c number }
+fn refused(c: Controller, refusal: Refusal) -> Ran
+    ensures { result ≡ record { controller = c; answer = Err refusal; counts = none } }
 {
     Ran {
         controller: c,
-        answer: RunAnswer::Refused(number),
+        answer: Err(refusal),
         counts: no_counts(),
     }
 }
 
-// The number that refuses a run of this service over this memory, or the judging of its log; 0 where nothing does.
-pub fn run_refusal(c: Controller, memory: &[u8]) -> u8
-    ensures { result ≡ refusal (run_grounds c memory.now) }
+// What refuses a run of this service over this memory, or the judging of its log, if anything does.
+pub fn run_refusal(c: Controller, memory: &[u8]) -> Option<Refusal>
+    ensures { result ≡ refused (refusal (run_grounds c memory.now)) }
 {
-    let no = when(c.in_service == 0, 8, 0);
-    let no = when(memory.len() != 65536, 7, no);
-    when(!c.valid(), 1, no)
+    let refusal = when(c.in_service == 0, Some(Refusal::NoService), None);
+    let refusal = when(memory.len() != 65536, Some(Refusal::Memory), refusal);
+    when(!c.valid(), Some(Refusal::Range), refusal)
+}
+
+// Whether the open service is of memory-to-memory.
+#[tactic(auto, unfolding(crate::specs::World::memory_to_memory))]
+pub fn is_copy(c: Controller) -> bool
+    ensures { result ≡ memory_to_memory c }
+{
+    memory_to_memory_bit(c.command) & (c.serving == 0)
 }
 
 // Whether the service stays open after this.
 pub(crate) fn stays_open(why: Reason) -> bool
     ensures { result ≡ stays_open why }
 {
-    match why {
-        Reason::Ended => false,
-        Reason::Dropped => false,
-        Reason::Cascade => true,
-        Reason::Limit => true,
-        Reason::Short => true,
-    }
+    (why != Reason::Ended) & (why != Reason::Dropped)
 }
 
 // The states of a transfer without S1.
 pub(crate) fn pace_of(command: u8, waits: u8) -> u64
     ensures { (result ≡ pace command waits) × (result ≤ most_pace) }
 {
-    when_long(compressed(command), 2, 3) + waits as u64
+    when(compressed(command), 2, 3) + waits as u64
 }
 
-pub(crate) fn bits_of(c: Controller) -> Bits
+// The bits of the channels that a service may change, as the state has them.
+pub fn bits_of(c: Controller) -> Bits
     ensures { result ≡ bits_of c }
 {
     Bits {
@@ -162,6 +165,7 @@ fn after_copy(c: Controller, i: usize, l: Copied, byte: u8, stays: bool) -> Cont
 }
 
 // The leg of the open service of channel i.
+#[tactic(auto, unfolding(crate::specs::States::needs_s1))]
 fn open_leg(c: Controller, i: usize, ch: Channel, n: u64, eop_at: u64) -> Leg
     requires { (0 < n) × (n ≤ most_transfers) }
     ensures { result ≡ leg_of c.edition i ch (bits_of c) (needs_s1 c ch.address) (pace c.command c.waits) n eop_at }
@@ -191,17 +195,17 @@ fn stood(c: Controller, i: usize, ch: Channel, why: Reason) -> Ran
     next.channels[i] = ch;
     Ran {
         controller: next,
-        answer: RunAnswer::Stopped(why),
+        answer: Ok(why),
         counts: no_counts(),
     }
 }
 
 fn ran(controller: Controller, why: Reason, n: Counts) -> Ran
-    ensures { result ≡ record { controller = controller; answer = Stopped why; counts = n } }
+    ensures { result ≡ record { controller = controller; answer = Ok why; counts = n } }
 {
     Ran {
         controller,
-        answer: RunAnswer::Stopped(why),
+        answer: Ok(why),
         counts: n,
     }
 }
@@ -254,11 +258,10 @@ pub fn run(
     // Taken out before the ranges are asked: a serving channel over 3 is refused below.
     let i = (c.serving % 4) as usize;
     let ch = c.channels[i];
-    let no = run_refusal(c, memory);
-    if no != 0 {
-        return refused(c, no);
+    if let Some(refusal) = run_refusal(c, memory) {
+        return refused(c, refusal);
     }
-    if memory_to_memory_bit(c.command) & (c.serving == 0) {
+    if is_copy(c) {
         return run_copy(c, i, ch, memory, limit, eop_at);
     }
     sixteen_bits(ch);

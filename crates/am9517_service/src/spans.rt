@@ -5,7 +5,6 @@ ghost use Rattle.am9517_service.specs.ClosedSpans.{until_end, stock_of, halt, sp
 use crate::Reason;
 use am9517::Channel;
 use am9517::modes::{is_cascade, is_demand, is_read, is_single, is_write};
-use words::spans::least;
 
 // How many transfers a leg makes, and why it stops then.
 #[derive(Clone, Copy)]
@@ -15,6 +14,7 @@ pub struct Span {
 }
 
 // The transfers up to the one that ends the service.
+#[tactic(auto, unfolding(crate::specs::ClosedSpans::until_end, words::specs::Choice::when))]
 fn until_end(once: bool, count: u16, eop_at: u64) -> u64
     ensures { result ≡ until_end once count eop_at }
 {
@@ -25,10 +25,11 @@ fn until_end(once: bool, count: u16, eop_at: u64) -> u64
     if eop_at == 0 {
         return tc;
     }
-    least(eop_at, tc)
+    eop_at.min(tc)
 }
 
 // The transfers that the device's bytes or its room last for.
+#[tactic(auto, unfolding(crate::specs::ClosedSpans::stock_of, words::specs::Choice::when))]
 fn stock_of(ch: Channel, bytes: u64, space: u64) -> u64
     ensures { result ≡ stock_of ch bytes space }
 {
@@ -42,6 +43,7 @@ fn stock_of(ch: Channel, bytes: u64, space: u64) -> u64
 }
 
 // Why a service stops before its end.
+#[tactic(auto, unfolding(crate::specs::ClosedSpans::halt, words::specs::Choice::when))]
 fn halt(limit: u64, stock: u64) -> Reason
     ensures { result ≡ halt limit stock }
 {
@@ -58,6 +60,7 @@ fn span_to(transfers: u64, why: Reason) -> Span
 }
 
 // The span of a leg of a device's service that finds this many device bytes and this much room.
+#[tactic(auto, unfolding(crate::specs::ClosedSpans::span_of, words::specs::Choice::when))]
 pub(crate) fn span_of(
     ch: Channel,
     active: bool,
@@ -77,7 +80,7 @@ pub(crate) fn span_of(
         }
     }
     let stock = stock_of(ch, bytes as u64, space as u64);
-    let far = least(limit, stock);
+    let far = limit.min(stock);
     let most = until_end(is_single(ch.mode), ch.count, eop_at);
     if most <= far {
         return span_to(most, Reason::Ended);

@@ -7,7 +7,7 @@ ghost use Rattle.am9517_service.specs.ClosedLegs.{address_after, current_after, 
 use am9517::Channel;
 use am9517::modes::decrement;
 use words::bytes::high_byte;
-use words::choice::when_long;
+use words::choice::when;
 use words::steps::steps;
 
 // An address and a count are of 16 bits: told of a record that was taken out of an array.
@@ -16,6 +16,7 @@ pub(crate) fn sixteen_bits(ch: Channel)
 {}
 
 // The address after n transfers.
+#[tactic(auto, unfolding(crate::specs::ClosedLegs::address_after))]
 pub(crate) fn address_after(ch: Channel, n: u64) -> u16
     ensures { result ≡ address_after ch n }
 {
@@ -23,6 +24,7 @@ pub(crate) fn address_after(ch: Channel, n: u64) -> u16
 }
 
 // The channel after n transfers.
+#[tactic(auto, unfolding(crate::specs::ClosedLegs::current_after))]
 pub(crate) fn current_after(ch: Channel, n: u64) -> Channel
     ensures { result ≡ current_after ch n }
 {
@@ -38,7 +40,7 @@ fn entered(down: bool, address: u16, n: u64) -> u64
     ensures { (result ≡ entered down address n) × (result ≤ 257) }
 {
     let place = address as u64 % 256;
-    (when_long(down, 255 - place, place) + n) / 256
+    (when(down, 255 - place, place) + n) / 256
 }
 
 // The latch asks for state S1 at an address.
@@ -49,10 +51,11 @@ pub(crate) fn needs_s1(latch_full: u8, latch: u8, address: u16) -> bool
 }
 
 // The working states of n transfers at this pace, the first with S1 or without.
+#[tactic(auto, unfolding(crate::specs::ClosedLegs::states_of))]
 pub(crate) fn states_of(ch: Channel, pace: u64, first: bool, n: u64) -> u64
     requires { (0 < n) × (n ≤ most_transfers) × (pace ≤ most_pace) }
     ensures { result ≡ states_of ch pace first n }
 {
     let pages = entered(decrement(ch.mode), ch.address, n - 1);
-    n * pace + (when_long(first, 1, 0) + pages)
+    n * pace + (when(first, 1, 0) + pages)
 }

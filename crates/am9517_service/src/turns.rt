@@ -177,19 +177,18 @@ pub fn serve(rota: Rota, was: Counts, memory: &mut [u8], device: &[u8], room: &m
     let count = bounded(s.channels[i].count);
     let address = bounded(s.channels[i].address);
     let may = is_single(mode) & ((count != 0) & (i != f.copier));
-    let l = transfer_alone(may, mode, address, was, memory, device, room);
-    if !l.made {
+    let Some(moved) = transfer_alone(may, mode, address, was, memory, device, room) else {
         if i == f.copier {
             return serve_copy(rota, i, was, memory);
         }
         return serve_leg(rota, i, was, memory, device, room);
-    }
+    };
     s.channels[i] = stepped(s.channels[i]);
     s.lowest = when(f.rotating, i as u8, s.lowest);
     let counts = Counts {
         transfers: was.transfers + 1,
-        used: l.used,
-        written: l.written,
+        used: moved.used,
+        written: moved.written,
         states: was.states + f.pace + 1,
     };
     behind(s, f, nexts, Reason::Ended, counts)

@@ -1,6 +1,6 @@
 -- Accepted and refused calls of converting.
 use Prim.Native.Nat.{ℕ, ◌-◌, ◌≤◌}
-use mathlib.Core.Path.{◌≡◌, refl, sym, ◌∙◌}
+use mathlib.Core.Path.{◌≡◌, refl, sym, ap, ◌∙◌}
 use mathlib.Core.Bool.{Bool, true, false, ◌||◌}
 use mathlib.Core.List.{List}
 use native.Mathlib.Omega.{arith}
@@ -9,8 +9,10 @@ use lib.ListN.{length}
 use borrow.Author.Tests.{eqb-true, ltb-false, le-ltb, ne_eqb}
 use Rattle.words.specs.Choice.{when}
 use Rattle.words.specs.Grounds.{first}
-use Rattle.am9517.specs.Refusals.{refusal}
-use Rattle.am9517_sheet.specs.declared.SheetAnswer.TheVariants.{Done, Refused}
+use Rattle.am9517.specs.Refusals.{numbered, unless, refusal}
+use Rattle.am9517.specs.declared.Controller.{Controller}
+use Rattle.am9517.specs.declared.refusals.Refusal.{Refusal}
+use Rattle.am9517.specs.declared.refusals.Refusal.TheVariants.{Slice, NoPlace}
 use Rattle.am9517_sheet.specs.declared.forms.Form.{Form}
 use Rattle.am9517_sheet.specs.Bytes.{placed}
 use Rattle.am9517_sheet.specs.Form.{sheet_size}
@@ -18,7 +20,9 @@ use Rattle.am9517_sheet.specs.Body.{exceeds}
 use Rattle.am9517_sheet.specs.Sheet.{told_in, sheet_of, sheet_refusal_number, Stored, stored, sheet_faults}
 use Rattle.am9517_sheet.specs.Convert.{convert_grounds, rewritten}
 use Rattle.words.proofs.ChoiceLaws.{never}
+use Rattle.am9517.proofs.ResultLaws as result
 use Rattle.words.proofs.GroundLaws.{passed, first_else}
+use Rattle.std.proofs.Common.{Result, Ok, Err}
 use Rattle.am9517_sheet.proofs.SheetLaws.{put_too, put_done, put_refused}
 
 -- neither of two is short
@@ -97,12 +101,46 @@ module _ (from to : Form) (source : List ℕ) where
 
   pub convert_too : (out : List ℕ) (w : Stored) → w ≡ rewritten from to source out
       → (w ≡ rewritten from to source out) × (sheet_refusal_number w.answer ≡ refusal (convert_grounds from to source (length out)))
-  convert_too out w e = put_too _ to (told_in from source) out w e
+  convert_too out w e = put_too (convert_grounds from to source (length out)) refl to (told_in from source) out w e
 
   -- what is given: a refusal's number and the target as it was, or the sheet in its other form
   module _ (out : List ℕ) (no : ℕ) (e : refusal (convert_grounds from to source (length out)) ≡ no) where
-    pub convert_refused : ¬ (no ≡ 0) → rewritten from to source out ≡ stored (Refused no) out
+    pub convert_refused : ¬ (no ≡ 0) → rewritten from to source out ≡ stored (Err (numbered no)) out
     convert_refused h = put_refused _ to (told_in from source) out no e h
 
-    pub convert_done : no ≡ 0 → rewritten from to source out ≡ stored Done (placed out (length out - sheet_size to) (sheet_of to (told_in from source)))
+    pub convert_done : no ≡ 0 → rewritten from to source out ≡ stored (Ok tt) (placed out (length out - sheet_size to) (sheet_of to (told_in from source)))
     convert_done z = put_done _ to (told_in from source) out (e ∙ z)
+
+  -- so it is by what was asked and found
+  module _ (out : List ℕ) where
+    abbrev short : Bool
+    short = ltb (length source) (sheet_size from) || ltb (length out) (sheet_size to)
+
+    abbrev there : Result Controller Refusal
+    there = unless faults (told_in from source)
+
+    pub by_size : short ≡ true → stored (Err Slice) out ≡ rewritten from to source out
+    unfolding numbered when
+    by_size e = sym (convert_refused out 9 (convert_short (length out) e) (λ z. omega arith))
+
+    module _ (fits : short ≡ false) where
+      pub by_fault : (r : Refusal) → Err r ≡ there → stored (Err r) out ≡ rewritten from to source out
+      by_fault r e =
+          let f = both_fit _ _ _ _ fits in
+          let d = result.denied _ _ r e in
+          sym (convert_refused out faults (convert_fault (length out) f.0 f.1 d.0) d.0 ∙ ap (λ (x : Refusal). stored (Err x) out) (sym d.1))
+
+      module _ (c : Controller) (e : Ok c ≡ there) where
+        pub by_place : exceeds to c ≡ true → stored (Err NoPlace) out ≡ rewritten from to source out
+        unfolding numbered when
+        by_place o =
+            let f = both_fit _ _ _ _ fits in
+            let g = result.given _ _ c e in
+            sym (convert_refused out 15 (convert_over (length out) f.0 f.1 g.0 (ap (exceeds to) (sym g.1) ∙ o)) (λ z. omega arith))
+
+        pub converted : exceeds to c ≡ false → stored (Ok tt) (placed out (length out - sheet_size to) (sheet_of to c)) ≡ rewritten from to source out
+        converted o =
+            let f = both_fit _ _ _ _ fits in
+            let g = result.given _ _ c e in
+            sym (convert_done out 0 (convert_free (length out) f.0 f.1 g.0 (ap (exceeds to) (sym g.1) ∙ o)) refl
+            ∙ ap (λ (x : Controller). stored (Ok tt) (placed out (length out - sheet_size to) (sheet_of to x))) (sym g.1))

@@ -13,7 +13,7 @@ use Rattle.am9517.specs.State.{fresh}
 use Rattle.am9517.specs.Ranges.{valid}
 use Rattle.am9517.specs.Refusals.{refusal}
 use Rattle.am9517.specs.declared.Controller.{Controller}
-use Rattle.am9517_sheet.specs.declared.SheetAnswer.TheVariants.{Done}
+use Rattle.std.proofs.Common.{Ok}
 use Rattle.am9517_sheet.specs.declared.SheetRead.{SheetRead}
 use Rattle.am9517_sheet.specs.declared.forms.Form.{Form}
 use Rattle.am9517_sheet.specs.declared.forms.Form.TheVariants.{One}
@@ -35,8 +35,8 @@ fresh_sheet_lem = refl
 
 module _ (form : Form) where
   -- What is written is read back, whatever state t the reader had.
-  pub written_read_lem : (s t : Controller) (out : List ℕ) → length s.channels ≡ 4 → (sheet_write_of form s out).answer ≡ Done
-      → sheet_read_of form t (sheet_write_of form s out).bytes ≡ record { controller = s; answer = Done }
+  pub written_read_lem : (s t : Controller) (out : List ℕ) → length s.channels ≡ 4 → (sheet_write_of form s out).answer ≡ Ok tt
+      → sheet_read_of form t (sheet_write_of form s out).bytes ≡ record { controller = s; answer = Ok tt }
   written_read_lem s t out channels done =
       let free = none_refuses _ done in
       let room = write_room form s (length out) free in
@@ -50,7 +50,7 @@ module _ (form : Form) where
       let state : state_of form (sheet_in form bytes) ≡ s = ap (state_of form) sheet ∙ state_of_body form s (trailer_of form (body_of form s)) channels within in
       ap (λ (w : Stored). sheet_read_of form t w.bytes) (write_done form s out free)
       ∙ read_done form bytes t good
-      ∙ ap (λ (u : Controller). record { controller = u; answer = Done }) state
+      ∙ ap (λ (u : Controller). record { controller = u; answer = Ok tt }) state
 
   sheet_of_state : (sheet : List ℕ) → OfBytes sheet → length sheet ≡ sheet_size form → refused_in form sheet ≡ 0 → sheet_of form (state_of form sheet) ≡ sheet
   sheet_of_state sheet byte size free =
@@ -89,8 +89,8 @@ module _ (form : Form) where
       }
 
   -- What is read is written back into any slice: its end becomes the sheet that was read.
-  pub read_copied_lem : (t : Controller) (bytes out : List ℕ) → OfBytes bytes → (sheet_read_of form t bytes).answer ≡ Done → sheet_size form ≤ length out
-      → sheet_write_of form (sheet_read_of form t bytes).controller out ≡ stored Done (take (length out - sheet_size form) out ++ last (sheet_size form) bytes)
+  pub read_copied_lem : (t : Controller) (bytes out : List ℕ) → OfBytes bytes → (sheet_read_of form t bytes).answer ≡ Ok tt → sheet_size form ≤ length out
+      → sheet_write_of form (sheet_read_of form t bytes).controller out ≡ stored (Ok tt) (take (length out - sheet_size form) out ++ last (sheet_size form) bytes)
   read_copied_lem t bytes out byte done room =
       let free : refusal (sheet_read_grounds form bytes) ≡ 0 = none_refuses _ done in
       let state = ap (λ (r : SheetRead). r.controller) (read_done form bytes t free) in
@@ -98,11 +98,11 @@ module _ (form : Form) where
       let fine = good_sheet bytes byte free in
       ap (λ (u : Controller). sheet_write_of form u out) state
       ∙ write_done form (state_of form there) out (write_free form (state_of form there) (length out) fine.state room (told_within form there))
-      ∙ ap (stored Done) (rw fine.same (placed_end out there (sheet_size form) fine.size room))
+      ∙ ap (stored (Ok tt)) (rw fine.same (placed_end out there (sheet_size form) fine.size room))
 
   -- and into the slice that it was read from: it stays as it was
-  pub read_written_lem : (t : Controller) (bytes : List ℕ) → OfBytes bytes → (sheet_read_of form t bytes).answer ≡ Done
-      → sheet_write_of form (sheet_read_of form t bytes).controller bytes ≡ stored Done bytes
+  pub read_written_lem : (t : Controller) (bytes : List ℕ) → OfBytes bytes → (sheet_read_of form t bytes).answer ≡ Ok tt
+      → sheet_write_of form (sheet_read_of form t bytes).controller bytes ≡ stored (Ok tt) bytes
   read_written_lem t bytes byte done =
       let room = read_room form bytes (none_refuses _ done) in
-      read_copied_lem t bytes bytes byte done room ∙ ap (stored Done) (take-append-drop (length bytes - sheet_size form) bytes)
+      read_copied_lem t bytes bytes byte done room ∙ ap (stored (Ok tt)) (take-append-drop (length bytes - sheet_size form) bytes)

@@ -1,12 +1,11 @@
 -- "Form 1 is the last 56 bytes of a lent slice; the rest isn't touched." For every form.
-use Rattle.std.specs.Prelude.{ℕ, ◌-◌, not, List, [], ◌∷◌, ◌++◌, eqb, ltb, length}
+use Rattle.std.specs.Prelude.{ℕ, ◌-◌, Result, not, List, [], ◌∷◌, ◌++◌, eqb, ltb, length}
 use Rattle.words.specs.Choice.{when}
 use Rattle.words.specs.Grounds.{Ground, ◌if◌}
 use Rattle.am9517.specs.Ranges.{valid}
-use Rattle.am9517.specs.Refusals.{refusal}
+use Rattle.am9517.specs.Refusals.{unless, number_in, refusal}
+use Rattle.am9517.specs.declared.refusals.Refusal.{Refusal}
 use Rattle.am9517.specs.declared.Controller.{Controller}
-use Rattle.am9517_sheet.specs.declared.SheetAnswer.{SheetAnswer}
-use Rattle.am9517_sheet.specs.declared.SheetAnswer.TheVariants.{Done, Refused}
 use Rattle.am9517_sheet.specs.declared.SheetRead.{SheetRead}
 use Rattle.am9517_sheet.specs.declared.forms.Form.{Form}
 use Rattle.am9517_sheet.specs.Bytes.{placed, last}
@@ -26,13 +25,15 @@ told_in form bytes = state_of form (sheet_in form bytes)
 abbrev pub sheet_of : Form → Controller → List ℕ
 sheet_of form s = with_trailer form (body_of form s)
 
+abbrev pub SheetAnswer : Type 0
+SheetAnswer = Result (Unit {0}) Refusal
+
 -- the paper's number of each answer, 0 for none; and what is answered where n refuses, or, with n zero, nothing does
 abbrev pub sheet_refusal_number : SheetAnswer → ℕ
-sheet_refusal_number Done = 0
-sheet_refusal_number (Refused n) = n
+sheet_refusal_number = number_in
 
 unfoldable pub answer_of : ℕ → SheetAnswer
-answer_of n = when (eqb n 0) Done (Refused n)
+answer_of n = unless n tt
 
 -- What writing gives: the answer, and the slice after it.
 pub record Stored : Type 0 where

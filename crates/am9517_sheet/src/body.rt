@@ -7,10 +7,11 @@ ghost use Rattle.am9517_sheet.specs.Form.{front, behind, channels_at, channel_pl
 ghost use Rattle.am9517_sheet.specs.Body.{channel_bytes, channels_bytes, channel_at, body_of, exceeds, field_in, state_of};
 
 use crate::bytes::{store, word};
-use crate::forms::{BODY, Form, channels_at};
+use crate::forms::{BODY, Form};
 use am9517::{Channel, Controller};
 use words::bytes::{high_byte, low_byte};
 
+// By hand: to_le_bytes gives pairs, and four pairs and a byte become nine bytes by no shorter text.
 fn channel_bytes(c: Channel) -> [u8; 9]
     ensures { result ≡ channel_bytes c }
 {
@@ -119,25 +120,14 @@ fn channel_at(b: &[u8], k: usize) -> Channel
     }
 }
 
-// The edition that a body tells: 0 where it has no place.
-fn edition_in(form: Form, b: &[u8]) -> u8
+// The edition and the wait states that a body tells: 0 where they have no place.
+fn front_in(form: Form, b: &[u8]) -> (u8, u8)
     requires { body_size form ≤ length b.now }
-    ensures { result ≡ field_in (front form) 0 b.now Edition 0 }
+    ensures { result ≡ (field_in (front form) 0 b.now Edition 0, field_in (front form) 0 b.now Waits 0) }
 {
     match form {
-        Form::One => 0,
-        Form::Two => b[0],
-    }
-}
-
-// Its wait states likewise.
-fn waits_in(form: Form, b: &[u8]) -> u8
-    requires { body_size form ≤ length b.now }
-    ensures { result ≡ field_in (front form) 0 b.now Waits 0 }
-{
-    match form {
-        Form::One => 0,
-        Form::Two => b[1],
+        Form::One => (0, 0),
+        Form::Two => (b[0], b[1]),
     }
 }
 
@@ -146,9 +136,8 @@ pub(crate) fn state_in(form: Form, b: &[u8]) -> Controller
     requires { body_size form ≤ length b.now }
     ensures { result ≡ state_of form b.now }
 {
-    let edition = edition_in(form, b);
-    let waits = waits_in(form, b);
-    let at = channels_at(form);
+    let (edition, waits) = front_in(form, b);
+    let at = form.channels_at();
     let core = &b[at..];
     let first = channel_at(core, 0);
     let second = channel_at(core, 9);

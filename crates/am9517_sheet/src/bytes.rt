@@ -4,10 +4,10 @@ ghost use Rattle.am9517_sheet.specs.Bytes.{word, total, placed};
 ghost use Rattle.am9517_sheet.specs.ClosedSums.{four_of, sixteen_of};
 ghost use Rattle.am9517_sheet.specs.Form.{channels_at, body_size};
 
-use crate::forms::{Form, channels_at};
+use crate::forms::Form;
 use words::bytes::word_of;
 
-// The word at place k.
+// The word at place k. By hand: u16::from_le_bytes([b[k], b[k + 1]]) is no plainer, and word_of says it as specs/ does.
 pub(crate) fn word(b: &[u8], k: usize) -> u16
     requires { k + 1 < length b.now }
     ensures { result ≡ word b.now k }
@@ -15,19 +15,12 @@ pub(crate) fn word(b: &[u8], k: usize) -> u16
     word_of(b[k], b[k + 1])
 }
 
-// A byte cast here brings its bound along.
-fn wide(b: u8) -> u16
-    ensures { (result ≡ b) × (result ≤ 255) }
-{
-    b as u16
-}
-
 // The sum of the four bytes from place k on.
 fn sum_of_four(b: &[u8], k: usize) -> u16
     requires { k + 4 ≤ length b.now }
     ensures { (result ≡ four_of b.now k) × (result ≤ 1020) }
 {
-    wide(b[k]) + wide(b[k + 1]) + wide(b[k + 2]) + wide(b[k + 3])
+    u16::from(b[k]) + u16::from(b[k + 1]) + u16::from(b[k + 2]) + u16::from(b[k + 3])
 }
 
 fn sixteen(b: &[u8], k: usize) -> u16
@@ -44,7 +37,7 @@ fn front_sum(form: Form, b: &[u8]) -> u16
 {
     match form {
         Form::One => 0,
-        Form::Two => wide(b[0]) + wide(b[1]),
+        Form::Two => u16::from(b[0]) + u16::from(b[1]),
     }
 }
 
@@ -53,7 +46,7 @@ pub(crate) fn sum(form: Form, b: &[u8]) -> u16
     requires { body_size form ≤ length b.now }
     ensures { result ≡ total (take (body_size form) b.now) }
 {
-    let at = channels_at(form);
+    let at = form.channels_at();
     let core = &b[at..];
     front_sum(form, b) + sixteen(core, 0) + sixteen(core, 16) + sixteen(core, 32)
 }
@@ -63,11 +56,7 @@ pub(crate) fn store(out: &mut [u8], at: usize, piece: &[u8]) -> usize
     requires { at + length piece.now ≤ length out.old }
     ensures { (out.new ≡ placed out.old at piece.now) × (result ≡ at + length piece.now) }
 {
-    let n = piece.len();
-    let mut j: usize = 0;
-    while j < n {
-        out[at + j] = piece[j];
-        j += 1;
-    }
-    at + n
+    let end = at + piece.len();
+    out[at..end].copy_from_slice(piece);
+    end
 }

@@ -8,9 +8,8 @@ ghost use Rattle.am9517_sheet.specs.Sheet.{sheet_refusal_number, stored, sheet_w
 ghost use Rattle.am9517_sheet.specs.Convert.{convert_grounds, convert_of};
 
 use crate::body::exceeds;
-use crate::forms::{other, sheet_size};
 use crate::sheet::{found, put};
-use am9517::Controller;
+use am9517::{Controller, Refusal};
 
 mod body;
 mod bytes;
@@ -21,12 +20,8 @@ mod trailer;
 pub use body::{body_of, state_of};
 pub use forms::{BODY, Form};
 
-// What writing, reading or converting a sheet says: done, or the number of its refusal.
-#[derive(Clone, Copy)]
-pub enum SheetAnswer {
-    Done,
-    Refused(u8),
-}
+// What writing, reading or converting a sheet says: done, or its refusal.
+pub type SheetAnswer = Result<(), Refusal>;
 
 // The state that was read, which is the old one where the answer is a refusal.
 #[derive(Clone, Copy)]
@@ -40,40 +35,37 @@ pub fn write(form: Form, c: Controller, out: &mut [u8]) -> SheetAnswer
     ensures { (stored result out.new ≡ sheet_write_of form c out.old) × (sheet_refusal_number result ≡ refusal (sheet_write_grounds form c (length out.old))) }
 {
     if !c.valid() {
-        return SheetAnswer::Refused(1);
+        return Err(Refusal::Range);
     }
-    if out.len() < sheet_size(form) {
-        return SheetAnswer::Refused(9);
+    if out.len() < form.sheet_size() {
+        return Err(Refusal::Slice);
     }
     if exceeds(form, c) {
-        return SheetAnswer::Refused(15);
+        return Err(Refusal::NoPlace);
     }
     put(form, c, out);
-    SheetAnswer::Done
+    Ok(())
 }
 
 // The sheet at the end of the slice is read; a refused one leaves the state.
 pub fn read(form: Form, c: Controller, bytes: &[u8]) -> SheetRead
     ensures { (result ≡ sheet_read_of form c bytes.now) × (sheet_refusal_number result.answer ≡ refusal (sheet_read_grounds form bytes.now)) }
 {
-    if bytes.len() < sheet_size(form) {
+    if bytes.len() < form.sheet_size() {
         return SheetRead {
             controller: c,
-            answer: SheetAnswer::Refused(9),
+            answer: Err(Refusal::Slice),
         };
     }
-    let there = found(form, bytes);
-    let fault = there.fault;
-    let next = there.controller;
-    if fault != 0 {
-        return SheetRead {
+    match found(form, bytes) {
+        Ok(told) => SheetRead {
+            controller: told,
+            answer: Ok(()),
+        },
+        Err(refusal) => SheetRead {
             controller: c,
-            answer: SheetAnswer::Refused(fault),
-        };
-    }
-    SheetRead {
-        controller: next,
-        answer: SheetAnswer::Done,
+            answer: Err(refusal),
+        },
     }
 }
 
@@ -81,19 +73,14 @@ pub fn read(form: Form, c: Controller, bytes: &[u8]) -> SheetRead
 pub fn convert(to: Form, source: &[u8], out: &mut [u8]) -> SheetAnswer
     ensures { (stored result out.new ≡ convert_of to source.now out.old) × (sheet_refusal_number result ≡ refusal (convert_grounds (other to) to source.now (length out.old))) }
 {
-    let from = other(to);
-    if (source.len() < sheet_size(from)) | (out.len() < sheet_size(to)) {
-        return SheetAnswer::Refused(9);
+    let from = to.other();
+    if (source.len() < from.sheet_size()) | (out.len() < to.sheet_size()) {
+        return Err(Refusal::Slice);
     }
-    let there = found(from, source);
-    let fault = there.fault;
-    let c = there.controller;
-    if fault != 0 {
-        return SheetAnswer::Refused(fault);
-    }
+    let c = found(from, source)?;
     if exceeds(to, c) {
-        return SheetAnswer::Refused(15);
+        return Err(Refusal::NoPlace);
     }
     put(to, c, out);
-    SheetAnswer::Done
+    Ok(())
 }

@@ -1,39 +1,35 @@
 // A sheet at the end of a slice that has room for it: looked at, and put there.
 ghost use Rattle.std.specs.Prelude.{◌≡◌, ◌-◌, ◌≤◌, length};
-ghost use Rattle.am9517.specs.Refusals.{refusal};
+ghost use Rattle.am9517.specs.Refusals.{refusal, unless};
 ghost use Rattle.am9517_sheet.specs.Bytes.{placed};
 ghost use Rattle.am9517_sheet.specs.Form.{sheet_size};
 ghost use Rattle.am9517_sheet.specs.Sheet.{told_in, sheet_of, sheet_faults};
 
 use crate::body::{state_in, store_body};
-use crate::forms::{Form, sheet_size};
-use crate::trailer::{store_trailer, trailer_refusal};
-use am9517::Controller;
-use words::choice::when;
+use crate::forms::Form;
+use crate::trailer::{check_trailer, store_trailer};
+use am9517::{Controller, Refusal};
 
-// The state that a sheet tells, in its ranges or not, and the number of its fault, 0 for none.
-#[derive(Clone, Copy)]
-pub struct SheetFound {
-    pub controller: Controller,
-    pub fault: u8,
-}
-
-pub(crate) fn found(form: Form, bytes: &[u8]) -> SheetFound
+// The state that the sheet tells, or the first of its faults.
+pub(crate) fn found(form: Form, bytes: &[u8]) -> Result<Controller, Refusal>
     requires { sheet_size form ≤ length bytes.now }
-    ensures { result ≡ record { controller = told_in form bytes.now; fault = refusal (sheet_faults form bytes.now) } }
+    ensures { result ≡ unless (refusal (sheet_faults form bytes.now)) (told_in form bytes.now) }
 {
-    let start = bytes.len() - sheet_size(form);
+    let start = bytes.len() - form.sheet_size();
     let sheet = &bytes[start..];
-    let controller = state_in(form, sheet);
-    let fault = trailer_refusal(form, sheet, when(!controller.valid(), 14, 0));
-    SheetFound { controller, fault }
+    check_trailer(form, sheet)?;
+    let told = state_in(form, sheet);
+    if !told.valid() {
+        return Err(Refusal::StoredRange);
+    }
+    Ok(told)
 }
 
 fn put_in(form: Form, c: Controller, out: &mut [u8])
     requires { sheet_size form ≤ length out.old }
     ensures { out.new ≡ placed out.old (length out.old - sheet_size form) (sheet_of form c) }
 {
-    let start = out.len() - sheet_size(form);
+    let start = out.len() - form.sheet_size();
     store_body(form, c, out, start);
     store_trailer(form, out, start);
 }

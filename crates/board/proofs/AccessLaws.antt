@@ -1,21 +1,20 @@
 -- A register access asks of the board only what the controller that is addressed doesn't ask by itself: the other one, the arbiter, and the
 -- register's number. Where they hold that controller's own answer is the board's.
 use Prim.Native.Nat.{ℕ, ◌≤◌}
-use mathlib.Core.Path.{◌≡◌, refl, sym, ap, ◌∙◌}
-use mathlib.Core.Bool.{Bool, true, false, not, ◌&&◌}
-use mathlib.Core.List.{List, [], ◌∷◌}
+use mathlib.Core.Path.{◌≡◌, refl, sym, ap, subst, ◌∙◌}
+use mathlib.Core.Bool.{Bool, true, false, ◌&&◌}
+use mathlib.Core.List.{List, []}
 use native.Mathlib.Omega.{arith}
 use lib.Dec.{ltb, leb}
-use borrow.Author.Tests.{not-false, leb-true, le-leb, le-ltb, ltb-false}
+use borrow.Author.Tests.{leb-true, le-ltb}
 use Rattle.words.specs.Choice.{when, ◌and◌}
-use Rattle.words.specs.Grounds.{Ground, ◌if◌, first}
+use Rattle.words.specs.Grounds.{Ground, first}
 use Rattle.am9517.specs.Ranges.{valid}
-use Rattle.am9517.specs.Refusals.{refusal, busy, idle}
+use Rattle.am9517.specs.Refusals.{refused, refusal, idle}
 use Rattle.am9517.specs.Answers.{outcome}
 use Rattle.am9517.specs.declared.Controller.{Controller}
 use Rattle.am9517.specs.declared.Outcome.{Outcome}
-use Rattle.am9517.specs.declared.Answer.{Answer}
-use Rattle.am9517.specs.declared.Answer.TheVariants.{Refused}
+use Rattle.am9517.specs.declared.refusals.Refusal.{Refusal}
 use Rattle.board.specs.declared.Board.{Board}
 use Rattle.board.specs.declared.Chip.{Chip}
 use Rattle.board.specs.declared.Chip.TheVariants.{First, Second}
@@ -24,9 +23,10 @@ use Rattle.board.specs.Chips.{chip, with_chip, other, addressed, own}
 use Rattle.board.specs.Ranges.{pair_valid}
 use Rattle.board.specs.Refusals.{access_grounds}
 use Rattle.board.specs.Answers.{board_outcome}
+use Rattle.board.specs.Needs.{own_grounds, Accesses}
 use Rattle.words.proofs.ChoiceLaws.{never}
-use Rattle.words.proofs.GroundLaws.{passed}
-use Rattle.board.proofs.OutcomeLaws.{refused_is, carries, access_refused, pair, each, each_idle}
+use Rattle.board.proofs.OutcomeLaws.{refused_is, carries, access_refused, access_passed}
+use Rattle.std.proofs.Common.{Option, Some, Err}
 
 -- this controller is in its ranges, and idle
 abbrev pub free : Controller → Bool
@@ -35,10 +35,6 @@ free c = valid c && idle c
 -- what is asked of the board beside the controller that is addressed
 abbrev pub asked : Bool → Board → ℕ → Bool
 asked f b r = f && (leb b.granted_last 1 && leb r 31)
-
--- what a controller refuses by itself, of one of its own registers
-abbrev pub own_grounds : Controller → ℕ → List (Ground ℕ) → List (Ground ℕ)
-own_grounds c r rest = 1 if not (valid c) ∷ 2 if ltb 15 (own r) ∷ 3 if busy c ∷ rest
 
 -- both of two that hold
 two : (x y : Bool) → (x && y) ≡ true → (x ≡ true) × (y ≡ true)
@@ -67,32 +63,36 @@ decides b which r rest e =
     go Second ev ei el ef es true false hv hi = simp (ev, ei, el, ef, es, hv, hi)
     go Second ev ei el ef es false i hv hi = simp (ev, ei, el, ef, es, hv)
 
--- what is accepted here is as the controller says
-pub accessed : (b : Board) (r : ℕ) (rest : Controller → List (Ground ℕ)) (next : Controller → Controller) (told : Controller → Answer) (found : Chip) (f : Bool) (c : Controller) (o : Outcome) (x : BoardOutcome)
-    → found ≡ addressed r → f ≡ free (chip b (other found)) → asked f b r ≡ true → c ≡ chip b found → o ≡ outcome (refusal (own_grounds c r (rest c))) c (next c) (told c)
+-- so it is where the board refuses nothing
+passes : (b : Board) (which : Chip) (r : ℕ) (rest : List (Ground ℕ)) → refusal (access_grounds b r []) ≡ 0
+    → refusal (own_grounds (chip b which) r rest) ≡ refusal (access_grounds b r (own_grounds (chip b which) r rest))
+passes b which r rest z = access_passed b r (own_grounds (chip b which) r rest) z
+
+-- what goes on to the controller is as that says: f tells what was asked of the other, no what the board refused where that wasn't enough
+accessed : (b : Board) (r : ℕ) (rest : Controller → List (Ground ℕ)) (next : Controller → Controller) (told : Controller → Option ℕ) (found : Chip) (f : Bool) (c : Controller) (o : Outcome) (x : BoardOutcome)
+    → found ≡ addressed r → f ≡ free (chip b (other found)) → (asked f b r ≡ false → refusal (access_grounds b r []) ≡ 0) → c ≡ chip b found → o ≡ outcome (refusal (own_grounds c r (rest c))) c (next c) (told c)
     → x ≡ record { board = with_chip b found o.controller; answer = o.answer }
     → x ≡ board_outcome (refusal (access_grounds b r (own_grounds (chip b (addressed r)) r (rest (chip b (addressed r)))))) b (with_chip b (addressed r) (next (chip b (addressed r)))) (told (chip b (addressed r)))
 accessed b r rest next told found f c o x ew ef ea ec eo ex =
     let there : f ≡ free (chip b (other (addressed r))) = ef ∙ ap (λ (w : Chip). free (chip b (other w))) ew in
-    let all : asked (free (chip b (other (addressed r)))) b r ≡ true = ap (λ (y : Bool). asked y b r) (sym there) ∙ ea in
-    carries b (λ k. refusal (own_grounds k r (rest k))) next told _ (addressed r) found c o x (decides b (addressed r) r (rest (chip b (addressed r))) all) ew ec eo ex
+    carries b (λ k. refusal (own_grounds k r (rest k))) next told _ (addressed r) found c o x (go (asked f b r) refl there) ew ec eo ex
+  where
+    go : (t : Bool) → asked f b r ≡ t → f ≡ free (chip b (other (addressed r)))
+        → refusal (own_grounds (chip b (addressed r)) r (rest (chip b (addressed r)))) ≡ refusal (access_grounds b r (own_grounds (chip b (addressed r)) r (rest (chip b (addressed r)))))
+    go true e there = decides b (addressed r) r (rest (chip b (addressed r))) (ap (λ (y : Bool). asked y b r) (sym there) ∙ e)
+    go false e there = passes b (addressed r) r (rest (chip b (addressed r))) (ea e)
 
--- what isn't is refused by the board
-holds : (b : Board) (which : Chip) (r n : ℕ) → n ≡ refusal (access_grounds b r []) → n ≡ 0 → asked (free (chip b (other which))) b r ≡ true
-unfolding refusal first
-holds b which r n e z =
-    let good = passed _ _ _ (omega arith) (sym e ∙ z) in
-    let few = passed _ _ _ (omega arith) good.next in
-    let still = passed _ _ _ (omega arith) few.next in
-    let p = pair b (not-false _ good.test) in
-    let v : valid (chip b (other which)) ≡ true = each b p (other which) in
-    let i : idle (chip b (other which)) ≡ true = not-false _ (each_idle b still.test (other which)) in
-    let l : leb b.granted_last 1 ≡ true = le-leb _ _ p.last in
-    let m : leb r 31 ≡ true = le-leb r 31 (ltb-false 31 r few.test) in
-    simp (v, i, l, m)
+-- what is refused by the board stays so
+unaccessed : (b : Board) (r : ℕ) (further : List (Ground ℕ)) (next : Board) (told : Option ℕ) (x : Refusal)
+    → refused (refusal (access_grounds b r [])) ≡ Some x → record { board = b; answer = Err x } ≡ board_outcome (refusal (access_grounds b r further)) b next told
+unaccessed b r further next told x e = refused_is _ b next told x (access_refused b r further x e)
 
-pub unaccessed : (b : Board) (r : ℕ) (further : List (Ground ℕ)) (next : Board) (told : Answer) (found : Chip) (f : Bool) (n : ℕ) → f ≡ free (chip b (other found)) → asked f b r ≡ false
-    → n ≡ refusal (access_grounds b r []) → record { board = b; answer = Refused n } ≡ board_outcome (refusal (access_grounds b r further)) b next told
-unaccessed b r further next told found f n ef ea en =
-    let no : n ≡ 0 → ⊥ = λ z. never (sym (holds b found r n en z) ∙ ap (λ (y : Bool). asked y b r) (sym ef) ∙ ea) in
-    refused_is n _ b next told (access_refused b r further n en no) no
+-- the same of whatever the access gives
+module _ (gives : Controller → Outcome → Type 0) (b : Board) (r : ℕ) (x : BoardOutcome) where
+  pub accesses_on : (found : Chip) (f : Bool) (c : Controller) (o : Outcome) → found ≡ addressed r → f ≡ free (chip b (other found)) → (asked f b r ≡ false → refusal (access_grounds b r []) ≡ 0)
+      → c ≡ chip b found → gives c o → x ≡ record { board = with_chip b found o.controller; answer = o.answer } → Accesses gives b r x
+  accesses_on found f c o ew ef ea ec p ex = λ rest next told does.
+      accessed b r rest next told found f (chip b (addressed r)) o x ew ef ea (ap (chip b) (sym ew)) (does o (subst (λ (k : Controller). gives k o) (ec ∙ ap (chip b) ew) p)) ex
+
+  pub accesses_not : (y : Refusal) → refused (refusal (access_grounds b r [])) ≡ Some y → x ≡ record { board = b; answer = Err y } → Accesses gives b r x
+  accesses_not y e ex = λ rest next told does. ex ∙ unaccessed b r _ _ _ y e

@@ -1,6 +1,7 @@
 -- The two chips of a board: what is put is found, and nothing else moves.
-use Prim.Native.Nat.{ℕ}
+use Prim.Native.Nat.{ℕ, ◌<◌}
 use mathlib.Core.Path.{◌≡◌, refl}
+use native.Mathlib.Omega.{arith}
 use Rattle.am9517.specs.declared.Controller.{Controller}
 use Rattle.board.specs.declared.Board.{Board}
 use Rattle.board.specs.declared.Chip.{Chip}
@@ -19,6 +20,11 @@ chip_put b Second c = refl
 pub chip_other : (b : Board) (which : Chip) (c : Controller) → chip (with_chip b which c) (other which) ≡ chip b (other which)
 chip_other b First c = refl
 chip_other b Second c = refl
+
+-- one of two numbers
+pub number_below : (which : Chip) → number_of which < 2
+number_below First = omega arith
+number_below Second = omega arith
 
 -- a chip put, and granted last
 pub turned : (b : Board) (which : Chip) (c : Controller) (next : Board) (n : ℕ) → next ≡ with_chip b which c → n ≡ number_of which

@@ -1,4 +1,5 @@
 pub mod ChipLaws
+pub mod RefusalLaws
 pub mod OutcomeLaws
 pub mod AccessLaws
 pub mod RunLaws

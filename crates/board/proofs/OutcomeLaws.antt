@@ -2,22 +2,21 @@
 use Prim.Native.Nat.{ℕ, ◌≤◌}
 use mathlib.Core.Path.{◌≡◌, refl, sym, ap, ◌∙◌}
 use mathlib.Core.Bool.{Bool, true, false, not, ◌&&◌, ◌||◌}
-use mathlib.Core.List.{List, [], ◌∷◌, ◌++◌}
+use mathlib.Core.List.{List, [], ◌++◌}
 use native.Mathlib.Omega.{arith}
 use lib.Dec.{eqb}
-use borrow.Author.Tests.{eqb-true, eq-eqb, ne_eqb, not-false, not-true, leb-true, ltb-false, le-ltb}
+use borrow.Author.Tests.{ne_eqb, not-false, not-true, leb-true, ltb-false, le-ltb}
 use Rattle.words.specs.Choice.{when, ◌and◌}
 use Rattle.words.specs.Grounds.{Ground, first}
 use Rattle.am9517.specs.Fields.{put, Pins}
 use Rattle.am9517.specs.Ranges.{valid}
 use Rattle.am9517.specs.State.{cleared}
-use Rattle.am9517.specs.Refusals.{refusal, busy}
+use Rattle.am9517.specs.Refusals.{numbered, refused, refusal, busy}
 use Rattle.am9517.specs.Answers.{refusal_number, outcome, pins_of, reset_of, grant_of}
 use Rattle.am9517.specs.Serving.{picked, picked_from, granted}
 use Rattle.am9517.specs.declared.Controller.{Controller}
 use Rattle.am9517.specs.declared.Outcome.{Outcome}
-use Rattle.am9517.specs.declared.Answer.{Answer}
-use Rattle.am9517.specs.declared.Answer.TheVariants.{Done, Value, Refused}
+use Rattle.am9517.specs.declared.refusals.Refusal.{Refusal}
 use Rattle.am9517_service.specs.Round.{nobody}
 use Rattle.board.specs.declared.Board.{Board}
 use Rattle.board.specs.declared.Chip.{Chip}
@@ -29,45 +28,43 @@ use Rattle.board.specs.Ranges.{both_serve, pair_valid, serves}
 use Rattle.board.specs.Refusals.{access_grounds, idle_grounds, board_pins_grounds, board_reset_grounds, board_grant_grounds}
 use Rattle.board.specs.Answers.{board_outcome}
 use Rattle.words.proofs.ChoiceLaws.{when_both, both, never}
-use Rattle.words.proofs.GroundLaws.{passed, Numbered, first_else}
+use Rattle.words.proofs.GroundLaws.{passed, Numbered}
+use Rattle.board.proofs.RefusalLaws.{named, taken}
+use Rattle.board.proofs.RefusalLaws.{number_said, front_refused, front_passed}
+use Rattle.std.proofs.Common.{Option, Some, None, Ok, Err}
 use Rattle.board.proofs.ChipLaws.{chip_back}
 
 -- the number that an answer says is the refusal's own
-told_by : (n : ℕ) (told : Answer) (t : Bool) → eqb n 0 ≡ t → refusal_number told ≡ 0 → refusal_number (when t told (Refused n)) ≡ n
-unfolding when
-told_by n told true e h = h ∙ sym (eqb-true _ _ e)
-told_by n told false e h = refl
-
-pub stated : (r : BoardOutcome) (n : ℕ) (was next : Board) (told : Answer) → refusal_number told ≡ 0 → r ≡ board_outcome n was next told
-    → (r ≡ board_outcome n was next told) × (refusal_number r.answer ≡ n)
+pub stated : (r : BoardOutcome) (gs : List (Ground ℕ)) (was next : Board) (told : Option ℕ) → named gs ≡ true → r ≡ board_outcome (refusal gs) was next told
+    → (r ≡ board_outcome (refusal gs) was next told) × (refusal_number r.answer ≡ refusal gs)
 unfolding board_outcome
-stated r n was next told h e = (e, ap (λ (o : BoardOutcome). refusal_number o.answer) e ∙ told_by n told (eqb n 0) refl h)
+stated r gs was next told h e = (e, ap (λ (o : BoardOutcome). refusal_number o.answer) e ∙ number_said gs told h)
 
 -- Refused.
-pub refused_is : (n n' : ℕ) (was next : Board) (told : Answer) → n ≡ n' → (n ≡ 0 → ⊥) → record { board = was; answer = Refused n } ≡ board_outcome n' was next told
+pub refused_is : (n : ℕ) (was next : Board) (told : Option ℕ) (r : Refusal) → refused n ≡ Some r → record { board = was; answer = Err r } ≡ board_outcome n was next told
 unfolding board_outcome when
-refused_is n n' was next told e h = rw (← e) (simp (ne_eqb n 0 h))
+refused_is n was next told r h = let t = taken n r h in simp (ne_eqb n 0 t.0, t.1)
 
 -- Accepted.
-pub accepted_is : (n : ℕ) (was next : Board) (told : Answer) → n ≡ 0 → record { board = next; answer = told } ≡ board_outcome n was next told
+pub accepted_is : (n : ℕ) (was next : Board) (told : Option ℕ) → n ≡ 0 → record { board = next; answer = Ok told } ≡ board_outcome n was next told
 unfolding board_outcome when
 accepted_is n was next told e = rw e refl
 
 -- What a chip's own outcome leaves of the board.
-carried_by_lem : (t : Bool) (n : ℕ) (b : Board) (which : Chip) (next : Controller) (told : Answer)
-    → ◌≡◌ {A = BoardOutcome} (record { board = with_chip b which (when t next (chip b which)); answer = when t told (Refused n) }) (record { board = when t (with_chip b which next) b; answer = when t told (Refused n) })
+carried_by_lem : (t : Bool) (n : ℕ) (b : Board) (which : Chip) (next : Controller) (told : Option ℕ)
+    → ◌≡◌ {A = BoardOutcome} (record { board = with_chip b which (when t next (chip b which)); answer = when t (Ok told) (Err (numbered n)) }) (record { board = when t (with_chip b which next) b; answer = when t (Ok told) (Err (numbered n)) })
 unfolding when
 carried_by_lem true n b which next told = refl
-carried_by_lem false n b which next told = ap (λ (x : Board). record { board = x; answer = Refused n }) (chip_back b which)
+carried_by_lem false n b which next told = ap (λ (x : Board). record { board = x; answer = Err (numbered n) }) (chip_back b which)
 
-pub carried_is : (n : ℕ) (b : Board) (which : Chip) (next : Controller) (told : Answer) (o : Outcome) → o ≡ outcome n (chip b which) next told
+pub carried_is : (n : ℕ) (b : Board) (which : Chip) (next : Controller) (told : Option ℕ) (o : Outcome) → o ≡ outcome n (chip b which) next told
     → record { board = with_chip b which o.controller; answer = o.answer } ≡ board_outcome n b (with_chip b which next) told
 unfolding outcome board_outcome
 carried_is n b which next told o e =
     ap (λ (x : Outcome). record { board = with_chip b which x.controller; answer = x.answer }) e ∙ carried_by_lem (eqb n 0) n b which next told
 
 -- the same, of the chip that was found and the outcome that it gave
-pub carries : (b : Board) (N : Controller → ℕ) (next : Controller → Controller) (told : Controller → Answer) (n : ℕ) (which found : Chip) (c : Controller) (o : Outcome) (x : BoardOutcome)
+pub carries : (b : Board) (N : Controller → ℕ) (next : Controller → Controller) (told : Controller → Option ℕ) (n : ℕ) (which found : Chip) (c : Controller) (o : Outcome) (x : BoardOutcome)
     → N (chip b which) ≡ n → found ≡ which → c ≡ chip b found → o ≡ outcome (N c) c (next c) (told c) → x ≡ record { board = with_chip b found o.controller; answer = o.answer }
     → x ≡ board_outcome n b (with_chip b which (next (chip b which))) (told (chip b which))
 carries b N next told n which found c o x en ew ec eo ex =
@@ -77,34 +74,22 @@ carries b N next told n which found c o x en ew ec eo ex =
     ∙ carried_is (N (chip b which)) b which (next (chip b which)) (told (chip b which)) o (eo ∙ ap (λ (k : Controller). outcome (N k) k (next k) (told k)) there)
     ∙ ap (λ (k : ℕ). board_outcome k b (with_chip b which (next (chip b which))) (told (chip b which))) en
 
--- Grounds in front that refuse, whatever stands behind them; or that don't, and what stands behind them decides.
-joined : (front further : List (Ground ℕ)) → first (front ++ further) 0 ≡ first front (first further 0)
-unfolding first
-joined [] further = refl
-joined (g ∷ front) further = ap (when g.holds g.gives) (joined front further)
-
-pub front_refused : (front further : List (Ground ℕ)) → Numbered front → (n : ℕ) → n ≡ refusal front → (n ≡ 0 → ⊥) → n ≡ refusal (front ++ further)
-unfolding refusal when
-front_refused front further h n e z =
-    e ∙ sym (joined front further ∙ first_else front h (first further 0) ∙ rw (← e) (simp (ne_eqb n 0 z)))
-
-pub front_passed : (front further : List (Ground ℕ)) → Numbered front → (n : ℕ) → n ≡ refusal front → n ≡ 0 → refusal further ≡ refusal (front ++ further)
-unfolding refusal when
-front_passed front further h n e z =
-    sym (joined front further ∙ first_else front h (first further 0) ∙ rw (← e) (simp (eq-eqb n 0 z)))
+-- a refusal by grounds in front of others is that of all
+refused_front : (front further : List (Ground ℕ)) → Numbered front → (r : Refusal) → refused (refusal front) ≡ Some r → refused (refusal (front ++ further)) ≡ Some r
+refused_front front further h r e = ap refused (front_refused front further h (taken (refusal front) r e).0) ∙ e
 
 -- of the board's own grounds, before those of a chip
-pub access_refused : (b : Board) (r : ℕ) (further : List (Ground ℕ)) (n : ℕ) → n ≡ refusal (access_grounds b r []) → (n ≡ 0 → ⊥) → n ≡ refusal (access_grounds b r further)
-access_refused b r further = front_refused (access_grounds b r []) further (omega arith, (omega arith, (omega arith, tt)))
+pub access_refused : (b : Board) (r : ℕ) (further : List (Ground ℕ)) (x : Refusal) → refused (refusal (access_grounds b r [])) ≡ Some x → refused (refusal (access_grounds b r further)) ≡ Some x
+access_refused b r further x e = refused_front (access_grounds b r []) further (omega arith, (omega arith, (omega arith, tt))) x e
 
-pub access_passed : (b : Board) (r : ℕ) (further : List (Ground ℕ)) (n : ℕ) → n ≡ refusal (access_grounds b r []) → n ≡ 0 → refusal further ≡ refusal (access_grounds b r further)
-access_passed b r further = front_passed (access_grounds b r []) further (omega arith, (omega arith, (omega arith, tt)))
+pub access_passed : (b : Board) (r : ℕ) (further : List (Ground ℕ)) → refusal (access_grounds b r []) ≡ 0 → refusal further ≡ refusal (access_grounds b r further)
+access_passed b r further z = sym (front_passed (access_grounds b r []) further (omega arith, (omega arith, (omega arith, tt))) z)
 
-pub idle_refused : (b : Board) (further : List (Ground ℕ)) (n : ℕ) → n ≡ refusal (idle_grounds b []) → (n ≡ 0 → ⊥) → n ≡ refusal (idle_grounds b further)
-idle_refused b further = front_refused (idle_grounds b []) further (omega arith, (omega arith, tt))
+pub idle_refused : (b : Board) (further : List (Ground ℕ)) (x : Refusal) → refused (refusal (idle_grounds b [])) ≡ Some x → refused (refusal (idle_grounds b further)) ≡ Some x
+idle_refused b further x e = refused_front (idle_grounds b []) further (omega arith, (omega arith, tt)) x e
 
-pub idle_passed : (b : Board) (further : List (Ground ℕ)) (n : ℕ) → n ≡ refusal (idle_grounds b []) → n ≡ 0 → refusal further ≡ refusal (idle_grounds b further)
-idle_passed b further = front_passed (idle_grounds b []) further (omega arith, (omega arith, tt))
+pub idle_passed : (b : Board) (further : List (Ground ℕ)) → refusal (idle_grounds b []) ≡ 0 → refusal further ≡ refusal (idle_grounds b further)
+idle_passed b further z = sym (front_passed (idle_grounds b []) further (omega arith, (omega arith, tt)) z)
 
 -- what a pair in its ranges tells
 pub record Pair (b : Board) : Type 0 where
@@ -139,10 +124,10 @@ reset_passed b n e z = pair b (not-false _ (passed _ _ _ (omega arith) (sym e �
 
 -- what both chips did stands on the board
 pub settles : (b : Board) (n : ℕ) → n ≡ 0 → (one two one' two' : Controller) (last : ℕ) (x : BoardOutcome) → one ≡ one' → two ≡ two'
-    → x ≡ record { board = record { first = one; second = two; granted_last = last }; answer = Done }
-    → x ≡ board_outcome n b (record { first = one'; second = two'; granted_last = last }) Done
+    → x ≡ record { board = record { first = one; second = two; granted_last = last }; answer = Ok None }
+    → x ≡ board_outcome n b (record { first = one'; second = two'; granted_last = last }) None
 settles b n z one two one' two' last x e1 e2 ex =
-    ex ∙ rw (e1, e2) (accepted_is n b (record { first = one'; second = two'; granted_last = last }) Done z)
+    ex ∙ rw (e1, e2) (accepted_is n b (record { first = one'; second = two'; granted_last = last }) None z)
 
 -- a chip in its ranges takes pins and reset
 pub chip_pins : (c : Controller) (p : ℕ) → valid c ≡ true → p ≤ 15 → (pins_of c p).controller ≡ put c Pins p
@@ -199,15 +184,15 @@ pub chip_granted : (c : Controller) → valid c ≡ true → busy c ≡ false �
 unfolding outcome refusal first when
 chip_granted c v i s = simp (v, i, s)
 
-pub granted_is : (b : Board) (n : ℕ) → n ≡ refusal (board_grant_grounds b) → n ≡ 0 → (which : Chip) → which ≡ winner b → (c : Controller) → c ≡ chip b which → (p : ℕ) → p ≡ picked c → (o : Outcome) → o ≡ grant_of c
+pub granted_is : (b : Board) → refusal (board_grant_grounds b) ≡ 0 → (which : Chip) → which ≡ winner b → (c : Controller) → c ≡ chip b which → (p : ℕ) → p ≡ picked c → (o : Outcome) → o ≡ grant_of c
     → (next : Board) → next ≡ turned_to b which o.controller → (x : ℕ) → x ≡ channel_of which p
-    → record { board = next; answer = Value x } ≡ board_outcome (refusal (board_grant_grounds b)) b (granted_to b) (Value (winning_channel b))
+    → record { board = next; answer = Ok (Some x) } ≡ board_outcome (refusal (board_grant_grounds b)) b (granted_to b) (Some (winning_channel b))
 unfolding granted_to
-granted_is b n e z which ew c ec p ep o eo next en x ex =
-    let g = grant_passed b n e z in
+granted_is b z which ew c ec p ep o eo next en x ex =
+    let g = grant_passed b _ refl z in
     let own : o.controller ≡ granted c (picked c) =
     ap (λ (y : Outcome). y.controller) eo ∙ rw (ec, ew) (chip_granted (chip b (winner b)) (each b g.pair (winner b)) (each_idle b g.idle (winner b)) (winner_wants b g.some)) in
     let board : next ≡ granted_to b = en ∙ ap (turned_to b which) own ∙ rw (ec, ew) refl in
     let said : x ≡ winning_channel b = ex ∙ rw (ep, ec, ew) refl in
-    ap (λ (y : Board). record { board = y; answer = Value x }) board ∙ ap (λ (y : ℕ). record { board = granted_to b; answer = Value y }) said
-    ∙ accepted_is (refusal (board_grant_grounds b)) b (granted_to b) (Value (winning_channel b)) (sym e ∙ z)
+    ap (λ (y : Board). record { board = y; answer = Ok (Some x) }) board ∙ ap (λ (y : ℕ). record { board = granted_to b; answer = Ok (Some y) }) said
+    ∙ accepted_is (refusal (board_grant_grounds b)) b (granted_to b) (Some (winning_channel b)) z

@@ -1,28 +1,28 @@
 -- A round on the board goes on service by service.
 use Prim.Native.Nat.{ℕ, zero, suc, ◌+◌, ◌-◌, ◌*◌, ◌≤◌, ◌<◌}
 use mathlib.Core.Path.{◌≡◌, refl, sym, ap, ◌∙◌}
-use mathlib.Core.Bool.{Bool, true, false, not, ◌&&◌, ◌||◌}
+use mathlib.Core.Bool.{Bool, true, false, not, ◌&&◌}
 use mathlib.Core.List.{List, [], ◌∷◌, ◌++◌}
 use native.Mathlib.Omega.{arith}
-use lib.Dec.{eqb, ltb}
+use lib.Dec.{eqb}
 use lib.ListN.{length, get_or, set, take}
-use borrow.Author.Tests.{eqb-true, eqb-false, ne_eqb, not-false, ltb-true, ltb-false}
+use borrow.Author.Tests.{eqb-true, eqb-false, ne_eqb, not-false, ltb-false}
 use Rattle.words.specs.Choice.{when, ◌and◌}
 use Rattle.words.specs.Grounds.{first}
 use Rattle.am9517.specs.Ranges.{valid}
-use Rattle.am9517.specs.Refusals.{refusal}
+use Rattle.am9517.specs.Refusals.{numbered, refused, refusal}
+use Rattle.am9517.specs.declared.refusals.Refusal.{Refusal}
 use Rattle.am9517.specs.Serving.{picked}
 use Rattle.am9517.specs.declared.Controller.{Controller}
 use Rattle.am9517_service.specs.declared.Counts.{Counts}
 use Rattle.am9517_service.specs.declared.Reason.{Reason}
-use Rattle.am9517_service.specs.declared.RoundAnswer.{RoundAnswer}
-use Rattle.am9517_service.specs.declared.RoundAnswer.TheVariants.{Done, Quiet, Stopped, Refused}
+use Rattle.am9517_service.specs.declared.RoundEnd.TheVariants.{Done, Quiet, Stopped}
 use Rattle.am9517_service.specs.declared.turns.Rota.{Rota}
 use Rattle.am9517_service.specs.declared.turns.Served.{Served}
 use Rattle.am9517_service.specs.Counts.{none, plus}
 use Rattle.am9517_service.specs.World.{Stop}
 use Rattle.am9517_service.specs.Bounds.{most_transfers, most_states}
-use Rattle.am9517_service.specs.Round.{nobody, is_ended}
+use Rattle.am9517_service.specs.Round.{RoundAnswer, nobody, is_ended}
 use Rattle.am9517_service.specs.RoundAnswers.{round_refusal_number}
 use Rattle.am9517_service.specs.Turns.{rota_of, ServedGiven, served_given, served_of, Ready, Serves}
 use Rattle.board.specs.declared.Board.{Board}
@@ -34,8 +34,11 @@ use Rattle.board.specs.Bus.{winner_of, winner, winning, winning_channel, quiet, 
 use Rattle.board.specs.Refusals.{board_round_grounds}
 use Rattle.board.specs.Round.{BoardCourse, board_course, board_beginning, service_next, with_service, after_service, BoardClose, board_close, board_round_of}
 use Rattle.board.specs.RoundAnswers.{BoardRoundGiven, board_round_given, board_closed, board_rounded_of}
-use Rattle.words.proofs.ChoiceLaws.{when_both, when_hit, when_miss, never}
+use Rattle.words.proofs.ChoiceLaws.{when_both, when_hit, when_miss}
 use Rattle.words.proofs.GroundLaws.{passed}
+use Rattle.board.proofs.RefusalLaws.{taken, few, number_back}
+use Rattle.std.proofs.Common.{Some, Ok, Err}
+use Rattle.board.proofs.ChipLaws.{number_below}
 use Rattle.board.proofs.OutcomeLaws.{pair, each_idle, picked_few, winner_wants}
 
 -- the rota of a chip, and the board of two
@@ -74,11 +77,11 @@ pub record Rolling (k : ℕ) (d : List ℕ) (size : ℕ) (o : BoardClose) (servi
   pub same : board_round_of left d (board_course (board_in one two last) m r services n) ≡ o
 
 -- what an accepted round has found
-pub round_passed : (b : Board) (m : List ℕ) (k n : ℕ) → n ≡ refusal (board_round_grounds b m k) → n ≡ 0
+pub round_passed : (b : Board) (m : List ℕ) (k : ℕ) → refusal (board_round_grounds b m k) ≡ 0
     → (valid b.first ≡ true) × (valid b.second ≡ true) × (b.first.in_service ≡ 0) × (b.second.in_service ≡ 0) × (length m ≡ 65536) × (k ≤ 4096)
 unfolding refusal first
-round_passed b m k n e z =
-    let good = passed _ _ _ (omega arith) (sym e ∙ z) in
+round_passed b m k z =
+    let good = passed _ _ _ (omega arith) z in
     let most = passed _ _ _ (omega arith) good.next in
     let size = passed _ _ _ (omega arith) most.next in
     let idle = passed _ _ _ (omega arith) size.next in
@@ -179,27 +182,6 @@ one_more (x ∷ xs) zero b h (suc i) = omega (arith, h (suc i))
 one_more (x ∷ xs) (suc n) b h zero = omega (arith, h 0)
 one_more (x ∷ xs) (suc n) b h (suc i) = one_more xs n b (λ k. h (suc k)) i
 
--- what the loop's test tells
-goes_on_lem : (left : ℕ) (x y : Bool) → (ltb 0 left && (not x || not y)) ≡ true → (0 < left) × ((x and y) ≡ false)
-unfolding ◌and◌
-goes_on_lem left x y e = go (ltb 0 left) x y refl e
-  where
-    go : (a x y : Bool) → ltb 0 left ≡ a → (a && (not x || not y)) ≡ true → (0 < left) × ((x && y) ≡ false)
-    go true true true h e = never (sym e)
-    go true true false h e = (ltb-true 0 left h, refl)
-    go true false y h e = (ltb-true 0 left h, refl)
-    go false x y h e = never (sym e)
-
-stops_by : (left : ℕ) (x y : Bool) → (ltb 0 left && (not x || not y)) ≡ false → (left ≡ 0 → ⊥) → (x and y) ≡ true
-unfolding ◌and◌
-stops_by left x y e more = go (ltb 0 left) x y refl e
-  where
-    go : (a x y : Bool) → ltb 0 left ≡ a → (a && (not x || not y)) ≡ false → (x && y) ≡ true
-    go true true true h e = refl
-    go true true false h e = never e
-    go true false y h e = never e
-    go false x y h e = absurd (more (omega (arith, ltb-false 0 left h)))
-
 -- the services of one chip more
 next_mul : (x y : ℕ) → (x + 1) * y ≡ x * y + y
 next_mul x y = omega arith
@@ -212,8 +194,9 @@ module _ (k : ℕ) (d : List ℕ) (size : ℕ) (o : BoardClose) (services : List
   abbrev W : BoardCourse
   W = board_course B m r services n
 
+  -- neither wants the bus
   abbrev Test : Bool
-  Test = ltb 0 left && (not (eqb (get_or nexts 0 0) 4) || not (eqb (get_or nexts 1 0) 4))
+  Test = eqb (get_or nexts 0 0) 4 && eqb (get_or nexts 1 0) 4
 
   none_one : eqb (get_or nexts 0 0) 4 ≡ nobody g.one.controller
   none_one = ap (λ (l : List ℕ). eqb (get_or l 0 0) 4) g.nexts_are
@@ -221,34 +204,28 @@ module _ (k : ℕ) (d : List ℕ) (size : ℕ) (o : BoardClose) (services : List
   none_two : eqb (get_or nexts 1 0) 4 ≡ nobody g.two.controller
   none_two = ap (λ (l : List ℕ). eqb (get_or l 1 0) 4) g.nexts_are
 
-  quiet_is : (t : Bool) → (eqb (get_or nexts 0 0) 4 and eqb (get_or nexts 1 0) 4) ≡ t → quiet B ≡ t
-  unfolding quiet
-  quiet_is t e = ap (λ (x : Bool). x and nobody g.two.controller) (sym none_one) ∙ ap (λ (y : Bool). eqb (get_or nexts 0 0) 4 and y) (sym none_two) ∙ e
+  quiet_is : (t : Bool) → Test ≡ t → quiet B ≡ t
+  unfolding quiet ◌and◌
+  quiet_is t e = ap (λ (x : Bool). x && nobody g.two.controller) (sym none_one) ∙ ap (λ (y : Bool). eqb (get_or nexts 0 0) 4 && y) (sym none_two) ∙ e
 
-  -- the loop is left: all services were begun, or nobody wants the bus
-  pub rolling_left : Test ≡ false → (a : RoundAnswer) → a ≡ when (eqb left 0) Done Quiet → (δ : Rota)
-      → board_round_given (rounded (board_in (get_or rotas 0 δ) (get_or rotas 1 δ) last) a services n) m r ≡ board_closed o
+  -- all services were begun
+  pub rolling_done : left ≡ 0 → (δ : Rota) → board_round_given (rounded (board_in (get_or rotas 0 δ) (get_or rotas 1 δ) last) (Ok Done) services n) m r ≡ board_closed o
+  unfolding board_closed board_round_of
+  rolling_done z δ =
+      let there : board_close W (Ok Done) ≡ o = ap (λ (j : ℕ). board_round_of j d W) (sym z) ∙ g.same in
+      rw g.rotas_are (ap board_closed there)
+
+  -- nobody wants the bus
+  pub rolling_quiet : 0 < left → Test ≡ true → (δ : Rota) → board_round_given (rounded (board_in (get_or rotas 0 δ) (get_or rotas 1 δ) last) (Ok Quiet) services n) m r ≡ board_closed o
   unfolding board_closed board_round_of first
-  rolling_left e a ea δ = rw (ea, g.rotas_are) (go (eqb left 0) refl)
-    where
-      zero_left : left ≡ 0 → board_close W Done ≡ o
-      zero_left z = ap (λ (j : ℕ). board_round_of j d W) (sym z) ∙ g.same
+  rolling_quiet more e δ =
+      let s : suc (left - 1) ≡ left = omega arith in
+      let there : board_close W (Ok Quiet) ≡ o = sym (when_hit _ _ _ (quiet_is true e)) ∙ ap (λ (j : ℕ). board_round_of j d W) s ∙ g.same in
+      rw g.rotas_are (ap board_closed there)
 
-      go : (t : Bool) → eqb left 0 ≡ t → board_round_given (rounded B (when t Done Quiet) services n) m r ≡ board_closed o
-      go true h = ap (λ (a : RoundAnswer). board_round_given (rounded B a services n) m r) (when_hit true Done Quiet refl) ∙ ap board_closed (zero_left (eqb-true _ _ h))
-      go false h =
-          let nz = eqb-false left 0 h in
-          let s : suc (left - 1) ≡ left = omega arith in
-          let silent : quiet B ≡ true = quiet_is true (stops_by left (eqb (get_or nexts 0 0) 4) (eqb (get_or nexts 1 0) 4) e nz) in
-          ap (λ (a : RoundAnswer). board_round_given (rounded B a services n) m r) (when_miss false Done Quiet refl)
-          ∙ ap board_closed (sym (when_hit _ _ _ silent) ∙ ap (λ (j : ℕ). board_round_of j d W) s ∙ g.same)
-
-  module _ (test : Test ≡ true) (which : Chip) (is-which : which ≡ winner_of last (not (eqb (get_or nexts 0 0) 4)) (not (eqb (get_or nexts 1 0) 4))) (t : ℕ) (is-t : t ≡ number_of which) where
-    pub more : 0 < left
-    more = (goes_on_lem left (eqb (get_or nexts 0 0) 4) (eqb (get_or nexts 1 0) 4) test).0
-
+  module _ (more : 0 < left) (test : Test ≡ false) (which : Chip) (is-which : which ≡ winner_of last (not (eqb (get_or nexts 0 0) 4)) (not (eqb (get_or nexts 1 0) 4))) (t : ℕ) (is-t : t ≡ number_of which) where
     loud : quiet B ≡ false
-    loud = quiet_is false (goes_on_lem left (eqb (get_or nexts 0 0) 4) (eqb (get_or nexts 1 0) 4) test).1
+    loud = quiet_is false test
 
     wins : which ≡ winner B
     wins = is-which ∙ ap (λ (x : Bool). winner_of last (not x) (not (eqb (get_or nexts 1 0) 4))) none_one ∙ ap (λ (x : Bool). winner_of last (not (nobody g.one.controller)) (not x)) none_two
@@ -274,8 +251,11 @@ module _ (k : ℕ) (d : List ℕ) (size : ℕ) (o : BoardClose) (services : List
     abbrev channel : ℕ
     channel = 4 * t + get_or nexts t 0
 
-    pub channel_below : t < 2 → channel < 8
-    channel_below h = omega (arith, next_below)
+    pub place_below : t < 2
+    place_below = omega (arith, is-t, number_below which)
+
+    pub channel_below : channel < 8
+    channel_below = omega (arith, next_below, place_below)
 
     pub services_below : get_or services channel 0 < 4096
     services_below = omega (arith, g.begun channel, g.most, g.fewer, more)
@@ -333,26 +313,26 @@ module _ (k : ℕ) (d : List ℕ) (size : ℕ) (o : BoardClose) (services : List
           ∙ ap (λ (j : ℕ). f (board_in one' two' t) m' r' j (plus n S.world.counts)) (sym channel_is)
           ∙ ap (f (board_in one' two' t) m' r' channel) (sym (ap (λ (z : ServedGiven). z.served.counts) made))
 
-      goes : when (not (is_ended S.reason)) (board_close (after_service W d) (Stopped S.reason)) (board_round_of (left - 1) d (after_service W d)) ≡ o
+      goes : when (not (is_ended S.reason)) (board_close (after_service W d) (Ok (Stopped S.reason))) (board_round_of (left - 1) d (after_service W d)) ≡ o
       unfolding board_round_of first
       goes = let s : suc (left - 1) ≡ left = omega (arith, more) in sym (when_miss _ _ _ loud) ∙ ap (λ (j : ℕ). board_round_of j d W) s ∙ g.same
 
       -- it did not end, and the round closes
       pub rolling_stops : is_ended x.why ≡ false → (δ : Rota)
-          → board_round_given (rounded (board_in (get_or (set rotas t x.rota) 0 δ) (get_or (set rotas t x.rota) 1 δ) t) (Stopped x.why) services' x.counts) m' r' ≡ board_closed o
+          → board_round_given (rounded (board_in (get_or (set rotas t x.rota) 0 δ) (get_or (set rotas t x.rota) 1 δ) t) (Ok (Stopped x.why)) services' x.counts) m' r' ≡ board_closed o
       unfolding board_closed
       rolling_stops h δ =
           let stays : is_ended S.reason ≡ false = sym (ap is_ended why_is) ∙ h in
-          let there : board_close (board_course (board_in one' two' t) m' r' services' x.counts) (Stopped x.why) ≡ o =
-          ap (λ (w : BoardCourse). board_close w (Stopped x.why)) (sym behind) ∙ ap (λ (e : Reason). board_close (after_service W d) (Stopped e)) why_is ∙ sym (when_hit _ _ _ (ap not stays)) ∙ goes in
+          let there : board_close (board_course (board_in one' two' t) m' r' services' x.counts) (Ok (Stopped x.why)) ≡ o =
+          ap (λ (w : BoardCourse). board_close w (Ok (Stopped x.why))) (sym behind) ∙ ap (λ (e : Reason). board_close (after_service W d) (Ok (Stopped e))) why_is ∙ sym (when_hit _ _ _ (ap not stays)) ∙ goes in
           rw (g.rotas_are, put_rotas which t g.one g.two x.rota is-t) (ap board_closed there)
 
       -- it did, and the loop goes on
       pub rolling_on : is_ended x.why ≡ true → (p : ℕ) → p ≡ picked x.rota.controller
-          → Rolling k d size o services' x.counts (set rotas t x.rota) (set nexts t p) t (left - 1) m' r'
-      rolling_on h p ep =
+          → (left' : ℕ) → left' ≡ left - 1 → Rolling k d size o services' x.counts (set rotas t x.rota) (set nexts t p) t left' m' r'
+      rolling_on h p ep left' el =
           let over : is_ended S.reason ≡ true = sym (ap is_ended why_is) ∙ h in
-          let begun : k - left + 1 ≡ k - (left - 1) = omega (arith, g.fewer, more) in
+          let begun : k - left + 1 ≡ k - left' = omega (arith, g.fewer, more) in
           record {
             one = one';
             two = two';
@@ -368,7 +348,7 @@ module _ (k : ℕ) (d : List ℕ) (size : ℕ) (o : BoardClose) (services : List
             states = rw (← begun) (omega (arith, keeps.states, g.states));
             fewer = omega (arith, g.fewer);
             most = g.most;
-            same = ap (board_round_of (left - 1) d) (sym behind) ∙ sym (when_miss _ _ _ (ap not over)) ∙ goes;
+            same = ap (λ (j : ℕ). board_round_of j d (board_course (board_in one' two' t) m' r' services' x.counts)) el ∙ ap (board_round_of (left - 1) d) (sym behind) ∙ sym (when_miss _ _ _ (ap not over)) ∙ goes;
           }
 
 -- What a round gives that was refused, or came to its close; and that its answer says the refusal's number.
@@ -379,32 +359,31 @@ round_number (suc left) d w =
     let P : BoardClose → Type 0 = λ x. round_refusal_number x.answer ≡ 0 in
     when_both P _ refl (when_both P _ refl (round_number left d (after_service w d)))
 
-round_by_lem : (n : ℕ) (t : Bool) (x : BoardClose) (w : BoardCourse) → eqb n 0 ≡ t → round_refusal_number x.answer ≡ 0
-    → round_refusal_number (when t (board_closed x) (board_closed (board_close w (Refused n)))).rounded.answer ≡ n
+round_by_lem : (n : ℕ) (t : Bool) (x : BoardClose) (w : BoardCourse) → eqb n 0 ≡ t → n ≤ 15 → round_refusal_number x.answer ≡ 0
+    → round_refusal_number (when t (board_closed x) (board_closed (board_close w (Err (numbered n))))).rounded.answer ≡ n
 unfolding when board_closed
-round_by_lem n true x w e h = h ∙ sym (eqb-true _ _ e)
-round_by_lem n false x w e h = refl
+round_by_lem n true x w e l h = h ∙ sym (eqb-true _ _ e)
+round_by_lem n false x w e l h = number_back n l (eqb-false _ _ e)
 
 pub round_told : (b : Board) (m d r : List ℕ) (k : ℕ) → round_refusal_number (board_rounded_of b m d r k).rounded.answer ≡ refusal (board_round_grounds b m k)
 unfolding board_rounded_of
-round_told b m d r k = round_by_lem (refusal (board_round_grounds b m k)) _ _ _ refl (round_number k d (board_beginning b m r))
+round_told b m d r k = round_by_lem (refusal (board_round_grounds b m k)) _ _ _ refl (few (board_round_grounds b m k) refl) (round_number k d (board_beginning b m r))
 
 round_stated : (x : BoardRounded) (m' room : List ℕ) (b : Board) (m d r : List ℕ) (k : ℕ) → board_round_given x m' room ≡ board_rounded_of b m d r k
     → (board_round_given x m' room ≡ board_rounded_of b m d r k) × (round_refusal_number x.answer ≡ refusal (board_round_grounds b m k))
 round_stated x m' room b m d r k e = (e, ap (λ (g : BoardRoundGiven). round_refusal_number g.rounded.answer) e ∙ round_told b m d r k)
 
-pub said_refused : (b : Board) (m d r : List ℕ) (k n : ℕ) → n ≡ refusal (board_round_grounds b m k) → (n ≡ 0 → ⊥) → (one two : Rota) → one ≡ rota_of b.first → two ≡ rota_of b.second → (z : Counts) → z ≡ none
-    → (x : BoardRounded) → x ≡ rounded (board_in one two b.granted_last) (Refused n) (0 ∷ 0 ∷ 0 ∷ 0 ∷ 0 ∷ 0 ∷ 0 ∷ 0 ∷ []) z
-    → (board_round_given x m r ≡ board_rounded_of b m d r k) × (round_refusal_number x.answer ≡ refusal (board_round_grounds b m k))
+pub said_refused : (b : Board) (m d r : List ℕ) (k : ℕ) (x : Refusal) → refused (refusal (board_round_grounds b m k)) ≡ Some x → (z : Counts) → z ≡ none
+    → (board_round_given (rounded b (Err x) (0 ∷ 0 ∷ 0 ∷ 0 ∷ 0 ∷ 0 ∷ 0 ∷ 0 ∷ []) z) m r ≡ board_rounded_of b m d r k) × (round_refusal_number (Err x) ≡ refusal (board_round_grounds b m k))
 unfolding board_rounded_of board_closed when
-said_refused b m d r k n e h one two e1 e2 z ez x ex =
-    round_stated x m r b m d r k (rw (ex, e1, e2, ez) (rw (← e) (simp (ne_eqb n 0 h))))
+said_refused b m d r k x h z ez =
+    let t = taken (refusal (board_round_grounds b m k)) x h in
+    round_stated _ m r b m d r k (simp (ne_eqb (refusal (board_round_grounds b m k)) 0 t.0, t.1, ez))
 
-pub said_closed : (b : Board) (m d r : List ℕ) (k n : ℕ) → n ≡ refusal (board_round_grounds b m k) → n ≡ 0 → (x y : BoardRounded) (m' r' : List ℕ) → x ≡ y → board_round_given y m' r' ≡ board_closed (board_round_of k d (board_beginning b m r))
+said_closed : (b : Board) (m d r : List ℕ) (k : ℕ) → refusal (board_round_grounds b m k) ≡ 0 → (x y : BoardRounded) (m' r' : List ℕ) → x ≡ y → board_round_given y m' r' ≡ board_closed (board_round_of k d (board_beginning b m r))
     → (board_round_given x m' r' ≡ board_rounded_of b m d r k) × (round_refusal_number x.answer ≡ refusal (board_round_grounds b m k))
 unfolding board_rounded_of when
-said_closed b m d r k n e z x y m' r' ex h =
-    let free : refusal (board_round_grounds b m k) ≡ 0 = sym e ∙ z in
+said_closed b m d r k free x y m' r' ex h =
     round_stated x m' r' b m d r k (ap (λ (k' : BoardRounded). board_round_given k' m' r') ex ∙ h ∙ rw free refl)
 
 -- the board that an array of two rotas begins with, as the loop has it
@@ -417,8 +396,8 @@ pub begun_is : (b : Board) (one two : Rota) → one ≡ rota_of b.first → two 
 begun_is b one two e1 e2 = rw (e1, e2) refl
 
 -- a round that came to its close from the board with which it began
-pub said_over : (b : Board) (m d r : List ℕ) (k n : ℕ) → n ≡ refusal (board_round_grounds b m k) → n ≡ 0 → (one two : Rota) → one ≡ rota_of b.first → two ≡ rota_of b.second → (x y : BoardRounded) (m' r' : List ℕ) → x ≡ y
+pub said_over : (b : Board) (m d r : List ℕ) (k : ℕ) → refusal (board_round_grounds b m k) ≡ 0 → (one two : Rota) → one ≡ rota_of b.first → two ≡ rota_of b.second → (x y : BoardRounded) (m' r' : List ℕ) → x ≡ y
     → board_round_given y m' r' ≡ board_closed (board_round_of k d (board_beginning (board_in one two b.granted_last) m r))
     → (board_round_given x m' r' ≡ board_rounded_of b m d r k) × (round_refusal_number x.answer ≡ refusal (board_round_grounds b m k))
-said_over b m d r k n e z one two e1 e2 x y m' r' ex h =
-    said_closed b m d r k n e z x y m' r' ex (h ∙ ap (λ (w : Board). board_closed (board_round_of k d (board_beginning w m r))) (begun_is b one two e1 e2))
+said_over b m d r k z one two e1 e2 x y m' r' ex h =
+    said_closed b m d r k z x y m' r' ex (h ∙ ap (λ (w : Board). board_closed (board_round_of k d (board_beginning w m r))) (begun_is b one two e1 e2))

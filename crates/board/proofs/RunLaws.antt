@@ -8,7 +8,10 @@ use borrow.Author.Tests.{ne_eqb, not-false, not-true}
 use Rattle.words.specs.Choice.{when}
 use Rattle.words.specs.Grounds.{first}
 use Rattle.am9517.specs.Ranges.{valid}
-use Rattle.am9517.specs.Refusals.{refusal, idle, busy}
+use Rattle.am9517.specs.Refusals.{number_of, refused, refusal, idle, busy}
+use Rattle.am9517.specs.declared.refusals.Refusal.{Refusal}
+use Rattle.am9517_service.specs.declared.Counts.{Counts}
+use Rattle.am9517_service.specs.Counts.{none}
 use Rattle.am9517.specs.declared.Controller.{Controller}
 use Rattle.am9517_service.specs.declared.Ran.{Ran}
 use Rattle.am9517_service.specs.Answers.{given, run_refusal_number, wrong_size, run_grounds, ran_of}
@@ -19,14 +22,19 @@ use Rattle.board.specs.declared.Chip.TheVariants.{First, Second}
 use Rattle.board.specs.Chips.{chip}
 use Rattle.board.specs.Ranges.{serves}
 use Rattle.board.specs.Refusals.{board_run_grounds}
-use Rattle.board.specs.Runs.{server, board_given, ran_on, refused_on, served_by, board_ran_of}
+use Rattle.board.specs.Runs.{server, board_given, ran_on, served_by, board_ran_of}
 use Rattle.words.proofs.GroundLaws.{passed}
+use Rattle.board.proofs.RefusalLaws.{taken, few, number_back}
+use Rattle.std.proofs.Common.{Some, Err}
 use Rattle.board.proofs.OutcomeLaws.{Pair, pair, each}
 
-pub refused_run : (b : Board) (m d r : List ℕ) (limit eop n : ℕ) → n ≡ refusal (board_run_grounds b m) → (n ≡ 0 → ⊥) → (x : BoardRan) → x ≡ refused_on b n
-    → (board_given x m r ≡ board_ran_of b m d r limit eop) × (run_refusal_number x.answer ≡ refusal (board_run_grounds b m))
+pub refused_run : (b : Board) (m d r : List ℕ) (limit eop : ℕ) (x : Refusal) → refused (refusal (board_run_grounds b m)) ≡ Some x → (n : Counts) → n ≡ none
+    → (board_given (record { board = b; answer = Err x; counts = n }) m r ≡ board_ran_of b m d r limit eop) × (run_refusal_number (Err x) ≡ refusal (board_run_grounds b m))
 unfolding board_ran_of when
-refused_run b m d r limit eop n e z x ex = rw ex (rw (← e) (simp (ne_eqb n 0 z)), e)
+refused_run b m d r limit eop x h n e =
+    let gs = board_run_grounds b m in
+    let t = taken (refusal gs) x h in
+    (simp (ne_eqb (refusal gs) 0 t.0, t.1, e), ap number_of t.1 ∙ number_back (refusal gs) (few gs refl) t.0)
 
 -- the one whose service is open is busy
 pub server_busy : (b : Board) → serves b ≡ true → busy (chip b (server b)) ≡ true

@@ -6,9 +6,8 @@ use lib.ListN.{length}
 use Rattle.am9517.specs.Refusals.{refusal}
 use Rattle.am9517.specs.declared.Controller.{Controller}
 use Rattle.am9517_sheet.specs.declared.forms.Form.{Form}
-use Rattle.am9517_sheet.specs.declared.SheetAnswer.{SheetAnswer}
 use Rattle.am9517_sheet.specs.declared.SheetRead.{SheetRead}
-use Rattle.am9517_sheet.specs.Sheet.{sheet_refusal_number, stored, sheet_write_grounds, sheet_write_of, sheet_read_grounds, sheet_read_of}
+use Rattle.am9517_sheet.specs.Sheet.{SheetAnswer, sheet_refusal_number, stored, sheet_write_grounds, sheet_write_of, sheet_read_grounds, sheet_read_of}
 use Rattle.board.specs.declared.Board.{Board}
 use Rattle.board.specs.declared.Chip.{Chip}
 use Rattle.board.specs.Chips.{chip, with_chip}

@@ -4,6 +4,7 @@ pub mod Bus
 pub mod Ranges
 pub mod Refusals
 pub mod Answers
+pub mod Needs
 pub mod Runs
 pub mod Round
 pub mod RoundAnswers

@@ -1,12 +1,11 @@
 -- A round on the board: as in document 01, with the bus given to one of two before each service.
-use Rattle.std.specs.Prelude.{ℕ, zero, suc, ◌+◌, not, List, [], ◌∷◌, ◌++◌, get_or, set, take}
+use Rattle.std.specs.Prelude.{ℕ, zero, suc, ◌+◌, not, Ok, List, [], ◌∷◌, ◌++◌, get_or, set, take}
 use Rattle.words.specs.Grounds.{◌if◌, first}
 use Rattle.am9517_service.specs.declared.Counts.{Counts}
-use Rattle.am9517_service.specs.declared.RoundAnswer.{RoundAnswer}
-use Rattle.am9517_service.specs.declared.RoundAnswer.TheVariants.{Done, Quiet, Stopped}
+use Rattle.am9517_service.specs.declared.RoundEnd.TheVariants.{Done, Quiet, Stopped}
 use Rattle.am9517_service.specs.Counts.{none, plus}
 use Rattle.am9517_service.specs.World.{Stop}
-use Rattle.am9517_service.specs.Round.{course, run_next, is_ended}
+use Rattle.am9517_service.specs.Round.{RoundAnswer, course, run_next, is_ended}
 use Rattle.board.specs.declared.Board.{Board}
 use Rattle.board.specs.Bus.{winner, winning, winning_channel, quiet, turned_to}
 
@@ -50,8 +49,8 @@ board_close w a = record { course = w; answer = a }
 
 -- with `remaining` more services to begin
 unfoldable pub board_round_of : ℕ → List ℕ → BoardCourse → BoardClose
-board_round_of zero d w = board_close w Done
+board_round_of zero d w = board_close w (Ok Done)
 board_round_of (suc remaining) d w =
-    first (board_close w Quiet if quiet w.board ∷ [])
-    (first (board_close (after_service w d) (Stopped (service_next w d).reason) if not (is_ended (service_next w d).reason) ∷ [])
+    first (board_close w (Ok Quiet) if quiet w.board ∷ [])
+    (first (board_close (after_service w d) (Ok (Stopped (service_next w d).reason)) if not (is_ended (service_next w d).reason) ∷ [])
     (board_round_of remaining d (after_service w d)))

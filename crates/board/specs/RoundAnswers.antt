@@ -1,8 +1,7 @@
 -- What a call of round on the board gives, for all inputs.
-use Rattle.std.specs.Prelude.{ℕ, List, eqb}
+use Rattle.std.specs.Prelude.{ℕ, Err, List, eqb}
 use Rattle.words.specs.Choice.{when}
-use Rattle.am9517.specs.Refusals.{refusal}
-use Rattle.am9517_service.specs.declared.RoundAnswer.TheVariants.{Refused}
+use Rattle.am9517.specs.Refusals.{numbered, refusal}
 use Rattle.board.specs.declared.Board.{Board}
 use Rattle.board.specs.declared.BoardRounded.{BoardRounded}
 use Rattle.board.specs.Refusals.{board_round_grounds}
@@ -28,4 +27,4 @@ board_closed k =
 unfoldable pub board_rounded_of : Board → List ℕ → List ℕ → List ℕ → ℕ → BoardRoundGiven
 board_rounded_of b m d r k =
     let n = refusal (board_round_grounds b m k) in
-    when (eqb n 0) (board_closed (board_round_of k d (board_beginning b m r))) (board_closed (board_close (board_beginning b m r) (Refused n)))
+    when (eqb n 0) (board_closed (board_round_of k d (board_beginning b m r))) (board_closed (board_close (board_beginning b m r) (Err (numbered n))))

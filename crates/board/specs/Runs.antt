@@ -1,9 +1,8 @@
 -- A run on the board: "Memory is shared; one service at a time"
-use Rattle.std.specs.Prelude.{ℕ, List, eqb}
+use Rattle.std.specs.Prelude.{ℕ, Err, List, eqb}
 use Rattle.words.specs.Choice.{when}
-use Rattle.am9517.specs.Refusals.{refusal, busy}
+use Rattle.am9517.specs.Refusals.{numbered, refusal, busy}
 use Rattle.am9517_service.specs.declared.Ran.{Ran}
-use Rattle.am9517_service.specs.declared.RunAnswer.TheVariants.{Refused}
 use Rattle.am9517_service.specs.Counts.{none}
 use Rattle.am9517_service.specs.Answers.{Given, ran_of}
 use Rattle.board.specs.declared.Board.{Board}
@@ -31,7 +30,7 @@ abbrev pub ran_on : Board → Chip → Ran → BoardRan
 ran_on b which r = record { board = with_chip b which r.controller; answer = r.answer; counts = r.counts }
 
 abbrev pub refused_on : Board → ℕ → BoardRan
-refused_on b n = record { board = b; answer = Refused n; counts = none }
+refused_on b n = record { board = b; answer = Err (numbered n); counts = none }
 
 abbrev pub served_by : Board → Chip → Given → BoardGiven
 served_by b which g = board_given (ran_on b which g.ran) g.memory g.room

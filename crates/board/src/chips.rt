@@ -1,30 +1,30 @@
 // The two controllers of the board: which is which, and what one of them leaves of the pair.
-ghost use Rattle.std.specs.Prelude.{◌≡◌, ◌≤◌, ◌<◌};
-ghost use Rattle.am9517.specs.declared.Answer.TheVariants.{Done, Refused};
+ghost use Rattle.std.specs.Prelude.{◌≡◌, ◌≤◌, None, Ok, Err};
 ghost use Rattle.board.specs.Chips.{number_of, chip, with_chip, addressed, channel_of};
 ghost use Rattle.board.specs.Bus.{turned_to};
 
 use crate::{Board, BoardOutcome, Chip};
-use am9517::{Answer, Controller, Outcome};
+use am9517::{Controller, Outcome, Refusal};
+use words::choice::when;
 
-// The number of a chip.
-pub(crate) fn chip_number(which: Chip) -> u8
-    ensures { (result ≡ number_of which) × (result < 2) }
-{
-    match which {
-        Chip::First => 0,
-        Chip::Second => 1,
+// Its number, which is what the byte of the arbiter says.
+impl From<Chip> for u8 {
+    ghost from_gives = { λ which n. n ≡ number_of which };
+
+    fn from(which: Chip) -> u8 {
+        match which {
+            Chip::First => 0,
+            Chip::Second => 1,
+        }
     }
 }
 
 // The controller that bit 4 of a register number picks.
+#[tactic(auto, unfolding(crate::specs::Chips::addressed))]
 pub(crate) fn addressed(reg: u32) -> Chip
     ensures { result ≡ addressed reg }
 {
-    if reg / 16 % 2 == 0 {
-        return Chip::First;
-    }
-    Chip::Second
+    when(reg / 16 % 2 == 0, Chip::First, Chip::Second)
 }
 
 // Channel n of a chip, as one of eight.
@@ -32,7 +32,7 @@ pub(crate) fn channel_of(which: Chip, n: u8) -> u8
     requires { n ≤ 4 }
     ensures { result ≡ channel_of which n }
 {
-    4 * chip_number(which) + n
+    4 * u8::from(which) + n
 }
 
 impl Board {
@@ -61,17 +61,17 @@ impl Board {
         ensures { result ≡ turned_to self which c }
     {
         let mut next = self.with_chip(which, c);
-        next.granted_last = chip_number(which);
+        next.granted_last = u8::from(which);
         next
     }
 }
 
-pub(crate) fn refused(b: Board, number: u8) -> BoardOutcome
-    ensures { result ≡ record { board = b; answer = Refused number } }
+pub(crate) fn refused(b: Board, refusal: Refusal) -> BoardOutcome
+    ensures { result ≡ record { board = b; answer = Err refusal } }
 {
     BoardOutcome {
         board: b,
-        answer: Answer::Refused(number),
+        answer: Err(refusal),
     }
 }
 
@@ -89,7 +89,7 @@ pub(crate) fn carried(b: Board, which: Chip, done: Outcome) -> BoardOutcome
 
 // What both did, where nothing is said but that it is done.
 pub(crate) fn settled(first: Outcome, second: Outcome, granted_last: u8) -> BoardOutcome
-    ensures { result ≡ record { board = record { first = first.controller; second = second.controller; granted_last = granted_last }; answer = Done } }
+    ensures { result ≡ record { board = record { first = first.controller; second = second.controller; granted_last = granted_last }; answer = Ok None } }
 {
     let one = first.controller;
     let two = second.controller;
@@ -100,6 +100,6 @@ pub(crate) fn settled(first: Outcome, second: Outcome, granted_last: u8) -> Boar
     };
     BoardOutcome {
         board,
-        answer: Answer::Done,
+        answer: Ok(None),
     }
 }

@@ -10,11 +10,12 @@ ghost use Rattle.board.specs.Chips.{fresh_board};
 ghost use Rattle.board.specs.Refusals.{board_write_grounds, board_read_grounds, board_pins_grounds, board_reset_grounds, board_waits_grounds, board_grant_grounds};
 ghost use Rattle.board.specs.Answers.{board_write_of, board_read_of, board_pins_of, board_reset_of, board_waits_of, board_grant_of};
 
-use crate::chips::{addressed, carried, channel_of, refused, settled};
+use crate::chips::{carried, channel_of, refused, settled};
 use am9517::{Answer, Controller, Edition};
 use am9517_service::{Counts, RoundAnswer, RunAnswer};
 use am9517_sheet::SheetAnswer;
 
+mod access;
 mod bus;
 mod chips;
 mod ranges;
@@ -37,7 +38,7 @@ pub struct Board {
 }
 
 // Which of the two.
-#[derive(Clone, Copy)]
+#[derive(Clone, Copy, PartialEq, Eq)]
 pub enum Chip {
     First,
     Second,
@@ -92,77 +93,22 @@ impl Board {
     pub fn write(self, reg: u32, byte: u8) -> BoardOutcome
         ensures { (result ≡ board_write_of self reg byte) × (refusal_number result.answer ≡ refusal (board_write_grounds self reg byte)) }
     {
-        // The controller that is addressed asks its own ranges; only the other is asked here, in line, since a call would copy the board.
-        let mut next = self;
-        let which = addressed(reg);
-        let mut free = false;
-        match which {
-            Chip::First => free = next.second.valid() & (next.second.in_service == 0),
-            Chip::Second => free = next.first.valid() & (next.first.in_service == 0),
-        }
-        let mut answer = Answer::Done;
-        if free & ((next.granted_last <= 1) & (reg <= 31)) {
-            let done = next.chip_of(which).write(reg % 16, byte);
-            let c = done.controller;
-            match which {
-                Chip::First => next.first = c,
-                Chip::Second => next.second = c,
-            }
-            let said = done.answer;
-            answer = said;
-        } else {
-            answer = Answer::Refused(next.access_refusal(reg));
-        }
-        // A block of its own: next goes out as one copy, not field by field.
-        {
-            BoardOutcome {
-                board: next,
-                answer,
-            }
-        }
+        self.accessed(reg, |c| c.write(reg % 16, byte))
     }
 
     // A register of the controller that bit 4 picks is read.
     pub fn read(self, reg: u32) -> BoardOutcome
         ensures { (result ≡ board_read_of self reg) × (refusal_number result.answer ≡ refusal (board_read_grounds self reg)) }
     {
-        // As above.
-        let mut next = self;
-        let which = addressed(reg);
-        let mut free = false;
-        match which {
-            Chip::First => free = next.second.valid() & (next.second.in_service == 0),
-            Chip::Second => free = next.first.valid() & (next.first.in_service == 0),
-        }
-        let mut answer = Answer::Done;
-        if free & ((next.granted_last <= 1) & (reg <= 31)) {
-            let done = next.chip_of(which).read(reg % 16);
-            let c = done.controller;
-            match which {
-                Chip::First => next.first = c,
-                Chip::Second => next.second = c,
-            }
-            let said = done.answer;
-            answer = said;
-        } else {
-            answer = Answer::Refused(next.access_refusal(reg));
-        }
-        // A block of its own: next goes out as one copy, not field by field.
-        {
-            BoardOutcome {
-                board: next,
-                answer,
-            }
-        }
+        self.accessed(reg, |c| c.read(reg % 16))
     }
 
     // The eight lines take these levels.
     pub fn pins(self, levels: u32) -> BoardOutcome
         ensures { (result ≡ board_pins_of self levels) × (refusal_number result.answer ≡ refusal (board_pins_grounds self levels)) }
     {
-        let no = self.pins_refusal(levels);
-        if no != 0 {
-            return refused(self, no);
+        if let Some(refusal) = self.pins_refusal(levels) {
+            return refused(self, refusal);
         }
         let first = self.first.pins(levels % 16);
         let second = self.second.pins(levels / 16);
@@ -173,9 +119,8 @@ impl Board {
     pub fn reset(self) -> BoardOutcome
         ensures { (result ≡ board_reset_of self) × (refusal_number result.answer ≡ refusal (board_reset_grounds self)) }
     {
-        let no = self.reset_refusal();
-        if no != 0 {
-            return refused(self, no);
+        if let Some(refusal) = self.reset_refusal() {
+            return refused(self, refusal);
         }
         let first = self.first.reset();
         let second = self.second.reset();
@@ -186,9 +131,8 @@ impl Board {
     pub fn waits(self, which: Chip, states: u8) -> BoardOutcome
         ensures { (result ≡ board_waits_of self which states) × (refusal_number result.answer ≡ refusal (board_waits_grounds self which)) }
     {
-        let no = self.idle_refusal();
-        if no != 0 {
-            return refused(self, no);
+        if let Some(refusal) = self.idle_refusal() {
+            return refused(self, refusal);
         }
         let c = self.chip_of(which);
         carried(self, which, c.waits(states))
@@ -198,9 +142,8 @@ impl Board {
     pub fn grant(self) -> BoardOutcome
         ensures { (result ≡ board_grant_of self) × (refusal_number result.answer ≡ refusal (board_grant_grounds self)) }
     {
-        let no = self.grant_refusal();
-        if no != 0 {
-            return refused(self, no);
+        if let Some(refusal) = self.grant_refusal() {
+            return refused(self, refusal);
         }
         let which = self.winner();
         let c = self.chip_of(which);
@@ -210,7 +153,7 @@ impl Board {
         let board = self.turned_to(which, next);
         BoardOutcome {
             board,
-            answer: Answer::Value(channel_of(which, n)),
+            answer: Ok(Some(channel_of(which, n))),
         }
     }
 }

@@ -1,64 +1,65 @@
-// The number of the first ground that holds, 0 where none does.
+// The first ground that holds, nothing where none does.
 ghost use Rattle.std.specs.Prelude.{◌≡◌, []};
-ghost use Rattle.am9517.specs.Refusals.{refusal};
+ghost use Rattle.am9517.specs.Refusals.{refused, refusal};
 ghost use Rattle.board.specs.Refusals.{access_grounds, idle_grounds, board_pins_grounds, board_reset_grounds, board_grant_grounds, board_run_grounds, board_round_grounds};
 
 use crate::Board;
+use am9517::Refusal;
 use words::choice::when;
 
 impl Board {
     // What the board itself refuses of a register access.
-    pub(crate) fn access_refusal(self, reg: u32) -> u8
-        ensures { result ≡ refusal (access_grounds self reg []) }
+    pub(crate) fn access_refusal(self, reg: u32) -> Option<Refusal>
+        ensures { result ≡ refused (refusal (access_grounds self reg [])) }
     {
-        let no = when(self.serves(), 3, 0);
-        let no = when(31 < reg, 2, no);
-        when(!self.valid(), 1, no)
+        let refusal = when(self.serves(), Some(Refusal::InService), None);
+        let refusal = when(31 < reg, Some(Refusal::TooLarge), refusal);
+        when(!self.valid(), Some(Refusal::Range), refusal)
     }
 
-    pub(crate) fn pins_refusal(self, levels: u32) -> u8
-        ensures { result ≡ refusal (board_pins_grounds self levels) }
+    pub(crate) fn pins_refusal(self, levels: u32) -> Option<Refusal>
+        ensures { result ≡ refused (refusal (board_pins_grounds self levels)) }
     {
-        let no = when(255 < levels, 2, 0);
-        when(!self.valid(), 1, no)
+        let refusal = when(255 < levels, Some(Refusal::TooLarge), None);
+        when(!self.valid(), Some(Refusal::Range), refusal)
     }
 
-    pub(crate) fn reset_refusal(self) -> u8
-        ensures { result ≡ refusal (board_reset_grounds self) }
+    pub(crate) fn reset_refusal(self) -> Option<Refusal>
+        ensures { result ≡ refused (refusal (board_reset_grounds self)) }
     {
-        when(!self.valid(), 1, 0)
+        when(!self.valid(), Some(Refusal::Range), None)
     }
 
     // What the board itself refuses of what asks that neither serves.
-    pub(crate) fn idle_refusal(self) -> u8
-        ensures { result ≡ refusal (idle_grounds self []) }
+    pub(crate) fn idle_refusal(self) -> Option<Refusal>
+        ensures { result ≡ refused (refusal (idle_grounds self [])) }
     {
-        let no = when(self.serves(), 3, 0);
-        when(!self.valid(), 1, no)
+        let refusal = when(self.serves(), Some(Refusal::InService), None);
+        when(!self.valid(), Some(Refusal::Range), refusal)
     }
 
-    pub(crate) fn grant_refusal(self) -> u8
-        ensures { result ≡ refusal (board_grant_grounds self) }
+    pub(crate) fn grant_refusal(self) -> Option<Refusal>
+        ensures { result ≡ refused (refusal (board_grant_grounds self)) }
     {
-        let no = when(self.quiet(), 6, 0);
-        let no = when(self.serves(), 3, no);
-        when(!self.valid(), 1, no)
+        let refusal = when(self.quiet(), Some(Refusal::NobodyEntitled), None);
+        let refusal = when(self.serves(), Some(Refusal::InService), refusal);
+        when(!self.valid(), Some(Refusal::Range), refusal)
     }
 }
 
-pub(crate) fn run_refusal(b: Board, memory: &[u8]) -> u8
-    ensures { result ≡ refusal (board_run_grounds b memory.now) }
+pub(crate) fn run_refusal(b: Board, memory: &[u8]) -> Option<Refusal>
+    ensures { result ≡ refused (refusal (board_run_grounds b memory.now)) }
 {
-    let no = when(!b.serves(), 8, 0);
-    let no = when(memory.len() != 65536, 7, no);
-    when(!b.valid(), 1, no)
+    let refusal = when(!b.serves(), Some(Refusal::NoService), None);
+    let refusal = when(memory.len() != 65536, Some(Refusal::Memory), refusal);
+    when(!b.valid(), Some(Refusal::Range), refusal)
 }
 
-pub(crate) fn round_refusal(b: Board, memory: &[u8], k: u32) -> u8
-    ensures { result ≡ refusal (board_round_grounds b memory.now k) }
+pub(crate) fn round_refusal(b: Board, memory: &[u8], k: u32) -> Option<Refusal>
+    ensures { result ≡ refused (refusal (board_round_grounds b memory.now k)) }
 {
-    let no = when(b.serves(), 3, 0);
-    let no = when(memory.len() != 65536, 7, no);
-    let no = when(4096 < k, 2, no);
-    when(!b.valid(), 1, no)
+    let refusal = when(b.serves(), Some(Refusal::InService), None);
+    let refusal = when(memory.len() != 65536, Some(Refusal::Memory), refusal);
+    let refusal = when(4096 < k, Some(Refusal::TooLarge), refusal);
+    when(!b.valid(), Some(Refusal::Range), refusal)
 }

@@ -1,20 +1,17 @@
 // A round: up to k services, the bus given anew before each.
-ghost use Rattle.std.specs.Prelude.{◌≡◌, ◌<◌};
-ghost use Rattle.words.specs.Choice.{when};
+ghost use Rattle.std.specs.Prelude.{◌≡◌};
 ghost use Rattle.am9517.specs.Refusals.{refusal};
-ghost use Rattle.am9517_service.specs.declared.RoundAnswer.TheVariants.{Done, Quiet};
 ghost use Rattle.am9517_service.specs.Counts.{none};
 ghost use Rattle.am9517_service.specs.RoundAnswers.{round_refusal_number};
-ghost use Rattle.board.specs.Chips.{number_of};
 ghost use Rattle.board.specs.Refusals.{board_round_grounds};
 ghost use Rattle.board.specs.RoundAnswers.{board_round_given, board_rounded_of};
 
 use crate::bus::winner_of;
 use crate::refusals::round_refusal;
-use crate::{Board, BoardRounded, Chip};
-use am9517_service::{Counts, Rota, RoundAnswer, is_ended, next_of, rota_of, serve};
+use crate::{Board, BoardRounded};
+use am9517_service::{Counts, Rota, RoundAnswer, RoundEnd, is_ended, next_of, rota_of, serve};
 
-fn no_counts() -> Counts
+pub(crate) fn no_counts() -> Counts
     ensures { result ≡ none }
 {
     Counts {
@@ -23,26 +20,6 @@ fn no_counts() -> Counts
         written: 0,
         states: 0,
     }
-}
-
-// The place of a chip in an array of two.
-fn place_of(which: Chip) -> usize
-    ensures { (result ≡ number_of which) × (result < 2) }
-{
-    match which {
-        Chip::First => 0,
-        Chip::Second => 1,
-    }
-}
-
-// How a round closes whose last service ended.
-fn closing(done: bool) -> RoundAnswer
-    ensures { result ≡ when done Done Quiet }
-{
-    if done {
-        return RoundAnswer::Done;
-    }
-    RoundAnswer::Quiet
 }
 
 fn closed(
@@ -74,31 +51,30 @@ fn closed(
 pub fn round(b: Board, memory: &mut [u8], device: &[u8], room: &mut [u8], k: u32) -> BoardRounded
     ensures { (board_round_given result memory.new room.new ≡ board_rounded_of b memory.old device.now room.old k) × (round_refusal_number result.answer ≡ refusal (board_round_grounds b memory.old k)) }
 {
-    let no = round_refusal(b, memory, k);
     let mut services: [u32; 8] = [0, 0, 0, 0, 0, 0, 0, 0];
     let mut n = no_counts();
+    if let Some(refusal) = round_refusal(b, memory, k) {
+        return BoardRounded {
+            board: b,
+            answer: Err(refusal),
+            services,
+            totals: n,
+        };
+    }
     let one = rota_of(b.first);
     let two = rota_of(b.second);
-    if no != 0 {
-        return closed(
-            one,
-            two,
-            b.granted_last,
-            RoundAnswer::Refused(no),
-            services,
-            n,
-        );
-    }
     let mut rotas: [Rota; 2] = [one, two];
     let mut nexts: [u8; 2] = [next_of(one), next_of(two)];
     let mut last = b.granted_last;
-    let mut left = k;
-    while (0 < left) & ((nexts[0] != 4) | (nexts[1] != 4)) {
+    for _begun in 0..k {
+        if (nexts[0] == 4) & (nexts[1] == 4) {
+            return closed(rotas[0], rotas[1], last, Ok(RoundEnd::Quiet), services, n);
+        }
         let which = winner_of(last, nexts[0] != 4, nexts[1] != 4);
-        let t = place_of(which);
+        last = u8::from(which);
+        let t = usize::from(last);
         let channel = 4 * t + nexts[t] as usize;
-        services[channel] = services[channel] + 1;
-        left -= 1;
+        services[channel] += 1;
         let rota = rotas[t];
         let done = serve(rota, n, memory, device, room);
         let next = done.rota;
@@ -106,18 +82,17 @@ pub fn round(b: Board, memory: &mut [u8], device: &[u8], room: &mut [u8], k: u32
         let why = done.why;
         rotas[t] = next;
         n = sum;
-        last = t as u8;
         if !is_ended(why) {
             return closed(
                 rotas[0],
                 rotas[1],
                 last,
-                RoundAnswer::Stopped(why),
+                Ok(RoundEnd::Stopped(why)),
                 services,
                 n,
             );
         }
         nexts[t] = next_of(next);
     }
-    closed(rotas[0], rotas[1], last, closing(left == 0), services, n)
+    closed(rotas[0], rotas[1], last, Ok(RoundEnd::Done), services, n)
 }

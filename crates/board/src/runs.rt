@@ -3,21 +3,21 @@ ghost use Rattle.std.specs.Prelude.{◌≡◌};
 ghost use Rattle.am9517.specs.Refusals.{refusal};
 ghost use Rattle.am9517_service.specs.Answers.{run_refusal_number};
 ghost use Rattle.board.specs.Refusals.{board_run_grounds};
-ghost use Rattle.board.specs.Runs.{server, board_given, ran_on, refused_on, board_ran_of};
+ghost use Rattle.board.specs.Runs.{server, board_given, ran_on, board_ran_of};
 
 use crate::refusals::run_refusal;
+use crate::rounds::no_counts;
 use crate::{Board, BoardRan, Chip};
-use am9517_service::{Counts, Ran, RunAnswer};
+use am9517_service::Ran;
+use words::choice::when;
 
 impl Board {
     // The controller whose service is open.
+    #[tactic(auto, unfolding(crate::specs::Runs::server))]
     pub(crate) fn server(self) -> Chip
         ensures { result ≡ server self }
     {
-        if self.first.in_service != 0 {
-            return Chip::First;
-        }
-        Chip::Second
+        when(self.first.in_service != 0, Chip::First, Chip::Second)
     }
 }
 
@@ -34,21 +34,6 @@ fn ran_on(b: Board, which: Chip, ran: Ran) -> BoardRan
     }
 }
 
-fn refused_on(b: Board, number: u8) -> BoardRan
-    ensures { result ≡ refused_on b number }
-{
-    BoardRan {
-        board: b,
-        answer: RunAnswer::Refused(number),
-        counts: Counts {
-            transfers: 0,
-            used: 0,
-            written: 0,
-            states: 0,
-        },
-    }
-}
-
 // Over the memory that both share.
 pub fn run(
     b: Board,
@@ -60,9 +45,12 @@ pub fn run(
 ) -> BoardRan
     ensures { (board_given result memory.new room.new ≡ board_ran_of b memory.old device.now room.old limit eop_at) × (run_refusal_number result.answer ≡ refusal (board_run_grounds b memory.old)) }
 {
-    let no = run_refusal(b, memory);
-    if no != 0 {
-        return refused_on(b, no);
+    if let Some(refusal) = run_refusal(b, memory) {
+        return BoardRan {
+            board: b,
+            answer: Err(refusal),
+            counts: no_counts(),
+        };
     }
     let which = b.server();
     let c = b.chip_of(which);

@@ -18,12 +18,8 @@ use Rattle.am9517.specs.Refusals.{refusal, idle, busy, unreadable, unwritable, p
 use Rattle.am9517.specs.Registers.{after_write, value, after_read}
 use Rattle.am9517.specs.Serving.{active, request_counts, entitled, set_of, entitled_set, picked_from, picked, granted}
 use Rattle.am9517.specs.Answers.{outcome, pins_of, reset_of, grant_of}
-use Rattle.am9517.specs.declared.Answer.{Answer}
-use Rattle.am9517.specs.declared.Answer.TheVariants.{Done, Value}
-use Rattle.am9517.specs.declared.Answer.TheVariants as answers
 use Rattle.am9517.specs.declared.Controller.{Controller}
 use Rattle.am9517_service.specs.declared.Reason.{Reason}
-use Rattle.am9517_service.specs.declared.RoundAnswer.TheVariants.{Quiet, Stopped, Refused}
 use Rattle.am9517_service.specs.Counts.{plus}
 use Rattle.am9517_service.specs.World.{Stop}
 use Rattle.am9517_service.specs.Answers.{given, refused_of, run_grounds, ran_of}
@@ -50,6 +46,9 @@ use Rattle.board.proofs.RunLaws.{run_passed}
 use Rattle.demands.specs.Operations as without
 use Rattle.demands.proofs.Rounds.{when_two}
 use Rattle.board_demands.proofs.Ranges.{cleared_valid}
+use Rattle.std.proofs.Common.{Option, Some, None, Ok, Err}
+use Rattle.am9517.specs.Refusals.{numbered}
+use Rattle.am9517_service.specs.declared.RoundEnd.TheVariants.{Quiet, Stopped}
 
 -- What the board asks is what the chip asks.
 and_rest : (v k : Bool) → (v && (true && (true && not (k && false)))) ≡ v
@@ -106,7 +105,7 @@ register_few First r h = le-ltb 31 (16 * 0 + r) (omega arith)
 register_few Second r h = le-ltb 31 (16 * 1 + r) (omega arith)
 
 -- refused, whatever would have come of it
-refused_same : (n : ℕ) (b next next' : Board) (told told' : Answer) → ¬ (n ≡ 0) → board_outcome n b next told ≡ board_outcome n b next' told'
+refused_same : (n : ℕ) (b next next' : Board) (told told' : Option ℕ) → ¬ (n ≡ 0) → board_outcome n b next told ≡ board_outcome n b next' told'
 unfolding board_outcome when
 refused_same n b next next' told told' h = simp (ne_eqb n 0 h)
 
@@ -135,7 +134,7 @@ over_same false rest rest' = refl
 
 -- a register access, by what a chip asks behind 1, 2 and 3, leaves and tells
 module _ (b : Board) (which : Chip) (a : Aside b which)
-    (further : Controller → ℕ → List (Ground ℕ)) (next : Controller → ℕ → Controller) (told : Controller → ℕ → Answer) where
+    (further : Controller → ℕ → List (Ground ℕ)) (next : Controller → ℕ → Controller) (told : Controller → ℕ → Option ℕ) where
   abbrev G : Controller → ℕ → List (Ground ℕ)
   G k r = 1 if not (valid k) ∷ 2 if ltb 15 r ∷ 3 if busy k ∷ further k r
 
@@ -236,21 +235,21 @@ pins_over c p e = rw e (over_refused (valid c) 0)
 pins_own : (b : Board) (which : Chip) → Aside b which → (p : ℕ) → board_pins_of b (levels_of b which p) ≡ outcome_on b which (pins_of (chip b which) p)
 pins_own b which a p = go (ltb 15 p) refl
   where
-    there : outcome_on b which (pins_of (chip b which) p) ≡ board_outcome (refusal (pins_grounds (chip b which) p)) b (with_chip b which (put (chip b which) Pins p)) Done
-    there = carried_is _ b which (put (chip b which) Pins p) Done _ refl
+    there : outcome_on b which (pins_of (chip b which) p) ≡ board_outcome (refusal (pins_grounds (chip b which) p)) b (with_chip b which (put (chip b which) Pins p)) None
+    there = carried_is _ b which (put (chip b which) Pins p) None _ refl
 
     go : (t : Bool) → ltb 15 p ≡ t → board_pins_of b (levels_of b which p) ≡ outcome_on b which (pins_of (chip b which) p)
     go true e =
         let over : ltb 255 (256 + p) ≡ true = lt-ltb 255 (256 + p) (omega arith) in
         ap (board_pins_of b) (levels_over b which p e)
-        ∙ ap (λ (n : ℕ). board_outcome n b (pinned b (256 + p)) Done) (pins_number b which (256 + p) p a (over ∙ sym e))
+        ∙ ap (λ (n : ℕ). board_outcome n b (pinned b (256 + p)) None) (pins_number b which (256 + p) p a (over ∙ sym e))
         ∙ refused_same _ b _ _ _ _ (pins_over (chip b which) p e) ∙ sym there
     go false e =
         let h : p ≤ 15 = ltb-false _ _ e in
         let few : ltb 255 (levels b which p) ≡ false = le-ltb _ _ (levels_few b which p a h) in
         ap (board_pins_of b) (levels_in b which p e)
-        ∙ ap (λ (n : ℕ). board_outcome n b (pinned b (levels b which p)) Done) (pins_number b which (levels b which p) p a (few ∙ sym e))
-        ∙ ap (λ (x : Board). board_outcome (refusal (pins_grounds (chip b which) p)) b x Done) (levels_pinned b which p a h) ∙ sym there
+        ∙ ap (λ (n : ℕ). board_outcome n b (pinned b (levels b which p)) None) (pins_number b which (levels b which p) p a (few ∙ sym e))
+        ∙ ap (λ (x : Board). board_outcome (refusal (pins_grounds (chip b which) p)) b x None) (levels_pinned b which p a h) ∙ sym there
 
 -- a reset
 reset_number : (b : Board) (which : Chip) → Aside b which → refusal (board_reset_grounds b) ≡ refusal (reset_grounds (chip b which))
@@ -263,12 +262,12 @@ reset_both b p =
     ap (λ (c : Controller). record { first = c; second = cleared b.second; granted_last = 1 }) (sym (chip_reset b.first p.first))
     ∙ ap (λ (c : Controller). record { first = (reset_of b.first).controller; second = c; granted_last = 1 }) (sym (chip_reset b.second p.second))
 
-reset_said : (b : Board) (n : ℕ) (c to : Controller) (next : Board) → (n ≡ 0 → board_outcome 0 b next Done ≡ reset_on b Done)
-    → board_outcome n b next Done ≡ reset_on b (outcome n c to Done).answer
+reset_said : (b : Board) (n : ℕ) (c to : Controller) (next : Board) → (n ≡ 0 → board_outcome 0 b next None ≡ reset_on b (Ok None))
+    → board_outcome n b next None ≡ reset_on b (outcome n c to None).answer
 unfolding outcome board_outcome when
 reset_said b n c to next h = go (eqb n 0) refl
   where
-    go : (t : Bool) → eqb n 0 ≡ t → record { board = when t next b; answer = when t Done (answers.Refused n) } ≡ reset_on b (when t Done (answers.Refused n))
+    go : (t : Bool) → eqb n 0 ≡ t → record { board = when t next b; answer = when t (Ok None) (Err (numbered n)) } ≡ reset_on b (when t (Ok None) (Err (numbered n)))
     go true e = h (eqb-true _ _ e)
     go false e = refl
 
@@ -276,8 +275,8 @@ reset_own : (b : Board) (which : Chip) → Aside b which → board_reset_of b �
 unfolding board_outcome when
 reset_own b which a =
     let same = reset_number b which a in
-    ap (λ (n : ℕ). board_outcome n b (board_cleared b) Done) same
-    ∙ reset_said b _ (chip b which) _ (board_cleared b) (λ e. ap (λ (x : Board). record { board = x; answer = Done }) (reset_both b (reset_passed b _ (sym same) e)))
+    ap (λ (n : ℕ). board_outcome n b (board_cleared b) None) same
+    ∙ reset_said b _ (chip b which) _ (board_cleared b) (λ e. ap (λ (x : Board). record { board = x; answer = Ok None }) (reset_both b (reset_passed b _ (sym same) e)))
 
 -- the bus is that chip's, where it wants it
 winner_own : (b : Board) (which : Chip) → nobody (chip b (other which)) ≡ true → nobody (chip b which) ≡ false → winner b ≡ which
@@ -291,22 +290,22 @@ unfolding refusal first
 grant_number b which a = rw (pair_own b which a, serves_own b which a, quiet_own b which a.quiet) refl
 
 granted_own : (b : Board) (which : Chip) → winner b ≡ which → (n : ℕ) → n ≡ 0
-    → board_outcome n b (granted_to b) (Value (winning_channel b)) ≡ grant_on b which (outcome n (chip b which) (granted (chip b which) (picked (chip b which))) (Value (picked (chip b which))))
+    → board_outcome n b (granted_to b) (Some (winning_channel b)) ≡ grant_on b which (outcome n (chip b which) (granted (chip b which) (picked (chip b which))) (Some (picked (chip b which))))
 unfolding board_outcome outcome granted_to when
 granted_own b which w n e = rw (e, w) refl
 
 ungranted_own : (b : Board) (which : Chip) (n : ℕ) → ¬ (n ≡ 0)
-    → board_outcome n b (granted_to b) (Value (winning_channel b)) ≡ grant_on b which (outcome n (chip b which) (granted (chip b which) (picked (chip b which))) (Value (picked (chip b which))))
+    → board_outcome n b (granted_to b) (Some (winning_channel b)) ≡ grant_on b which (outcome n (chip b which) (granted (chip b which) (picked (chip b which))) (Some (picked (chip b which))))
 unfolding board_outcome outcome when
 ungranted_own b which n e = simp (ne_eqb n 0 e)
 
 grant_own : (b : Board) (which : Chip) → Aside b which → board_grant_of b ≡ grant_on b which (grant_of (chip b which))
 grant_own b which a =
     let n = refusal (grant_grounds (chip b which)) in
-    ap (λ (k : ℕ). board_outcome k b (granted_to b) (Value (winning_channel b))) (grant_number b which a) ∙ go (eqb n 0) refl
+    ap (λ (k : ℕ). board_outcome k b (granted_to b) (Some (winning_channel b))) (grant_number b which a) ∙ go (eqb n 0) refl
   where
     go : (t : Bool) → eqb (refusal (grant_grounds (chip b which))) 0 ≡ t
-        → board_outcome (refusal (grant_grounds (chip b which))) b (granted_to b) (Value (winning_channel b)) ≡ grant_on b which (grant_of (chip b which))
+        → board_outcome (refusal (grant_grounds (chip b which))) b (granted_to b) (Some (winning_channel b)) ≡ grant_on b which (grant_of (chip b which))
     go true e =
         let free = eqb-true _ _ e in
         let some : nobody (chip b which) ≡ false = sym (quiet_own b which a.quiet) ∙ (grant_passed b _ (sym (grant_number b which a)) free).some in
@@ -439,9 +438,9 @@ module _ (which : Chip) (o : Controller) (none : nobody o ≡ true) (d : List �
   round_on zero was v four = refl
   round_on (suc left) was v four =
       let w = stood was v in
-      let behind : Reason → BoardCourse → BoardClose = λ e x. when (not (is_ended e)) (board_close x (Stopped e)) (board_round_of left d x) in
-      let own_behind : Close = when (not (is_ended (run_next v d).reason)) (close (after_next v d) (Stopped (run_next v d).reason)) (round_of left d (after_next v d)) in
-      subst (λ (t : Bool). AsOwn was (when t (board_close w Quiet) (behind (service_next w d).reason (after_service w d))) (when (nobody v.controller) (close v Quiet) own_behind)) (sym (quiet_on v.controller (last_by was v)))
+      let behind : Reason → BoardCourse → BoardClose = λ e x. when (not (is_ended e)) (board_close x (Ok (Stopped e))) (board_round_of left d x) in
+      let own_behind : Close = when (not (is_ended (run_next v d).reason)) (close (after_next v d) (Ok (Stopped (run_next v d).reason))) (round_of left d (after_next v d)) in
+      subst (λ (t : Bool). AsOwn was (when t (board_close w (Ok Quiet)) (behind (service_next w d).reason (after_service w d))) (when (nobody v.controller) (close v (Ok Quiet)) own_behind)) (sym (quiet_on v.controller (last_by was v)))
       (when_two (AsOwn was) (nobody v.controller) (λ e. refl)
       (λ some. subst (λ (e : Reason). AsOwn was (behind e (after_service w d)) own_behind) (sym (ap (λ (s : Stop). s.reason) (service_on (last_by was v) v some)))
       (subst (λ (x : BoardCourse). AsOwn was (behind (run_next v d).reason x) own_behind) (sym (after_on was v some four))
@@ -469,12 +468,12 @@ round_own b which a m d r k =
     let c = chip b which in
     let v = beginning c m r in
     let n = refusal (round_grounds c m k) in
-    let on : ℕ → BoardCourse → BoardRoundGiven = λ i w. when (eqb i 0) (board_closed (board_round_of k d w)) (board_closed (board_close w (Refused i))) in
+    let on : ℕ → BoardCourse → BoardRoundGiven = λ i w. when (eqb i 0) (board_closed (board_round_of k d w)) (board_closed (board_close w (Err (numbered i)))) in
     subst (λ (i : ℕ). RoundOnBus b which (on i (board_beginning b m r)) (rounded_of c m d r k)) (sym (round_number b which m k a))
     (subst (λ (w : BoardCourse). RoundOnBus b which (on n w) (rounded_of c m d r k)) (sym (began_own b which m r))
     (when_two (RoundOnBus b which) (eqb n 0)
     (λ e. subst (λ (x : BoardClose). RoundOnBus b which (board_closed x) (closed (round_of k d v))) (sym (round_on which o a.quiet d k b.granted_last v refl)) (closed_own b which (round_of k d v)))
-    (λ e. closed_own b which (close v (Refused n)))))
+    (λ e. closed_own b which (close v (Err (numbered n))))))
 
 reset_by : (b : Board) (which : Chip) (n : ℕ) (t : Bool) → chip (when t (board_cleared b) b) which ≡ when t (cleared (chip b which)) (chip b which)
 unfolding when
@@ -491,12 +490,12 @@ reset_chip b which a = rw (reset_number b which a) (reset_by b which 0 _, refl)
 pub alone : Alone
 alone b which a =
     record {
-      write = λ r x. access_own b which a (λ c r. 4 if unwritable c.edition r ∷ 5 if (eqb r 0xB && mode_refused x) ∷ []) (λ c r. after_write c r x) (λ c r. Done) r;
-      read = access_own b which a (λ c r. 4 if unreadable r ∷ []) after_read (λ c r. Value (value c r));
+      write = λ r x. access_own b which a (λ c r. 4 if unwritable c.edition r ∷ 5 if (eqb r 0xB && mode_refused x) ∷ []) (λ c r. after_write c r x) (λ c r. None) r;
+      read = access_own b which a (λ c r. 4 if unreadable r ∷ []) after_read (λ c r. Some (value c r));
       pins = pins_own b which a;
       waits = λ n.
-          ap (λ (k : ℕ). board_outcome k b (with_chip b which (put (chip b which) Waits n)) Done) (waits_own b which a)
-          ∙ sym (carried_is _ b which (put (chip b which) Waits n) Done _ refl);
+          ap (λ (k : ℕ). board_outcome k b (with_chip b which (put (chip b which) Waits n)) None) (waits_own b which a)
+          ∙ sym (carried_is _ b which (put (chip b which) Waits n) None _ refl);
       grant = grant_own b which a;
       run = run_own b which a;
       round = λ m d r k. (round_own b which a m d r k).round;
@@ -527,7 +526,7 @@ unfolding outcome when
 grant_kept b which a = go (eqb (refusal (grant_grounds (chip b which))) 0) (granted (chip b which) (picked (chip b which))) (picked (chip b which)) (refusal (grant_grounds (chip b which)))
   where
     go : (t : Bool) (to : Controller) (n by : ℕ)
-        → Kept (grant_on b which (record { controller = when t to (chip b which); answer = when t (Value n) (answers.Refused by) })).board which (when t to (chip b which))
+        → Kept (grant_on b which (record { controller = when t to (chip b which); answer = when t (Ok (Some n)) (Err (numbered by)) })).board which (when t to (chip b which))
     go true to n by = turned_kept b which a to
     go false to n by = so_kept b which a
 
@@ -553,7 +552,7 @@ cleared_kept b Second a =
 reset_kept : (b : Board) (which : Chip) → Aside b which → Kept (board_reset_of b).board which (reset_of (chip b which)).controller
 unfolding outcome board_outcome
 reset_kept b which a =
-    subst (λ (n : ℕ). Kept (board_outcome n b (board_cleared b) Done).board which (reset_of (chip b which)).controller) (sym (reset_number b which a))
+    subst (λ (n : ℕ). Kept (board_outcome n b (board_cleared b) None).board which (reset_of (chip b which)).controller) (sym (reset_number b which a))
     (when_two (λ (x : Board) (c : Controller). Kept x which c) _ (λ e. cleared_kept b which a) (λ e. so_kept b which a))
 
 number_few : (which : Chip) → number_of which ≤ 1

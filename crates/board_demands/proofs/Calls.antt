@@ -8,7 +8,8 @@ use borrow.Author.Tests.{eqb-true, ne_eqb}
 use Rattle.words.specs.Choice.{when, ◌and◌}
 use Rattle.words.specs.Grounds.{Ground, ◌if◌, first}
 use Rattle.am9517.specs.Refusals.{refusal}
-use Rattle.am9517.specs.declared.Answer.{Answer}
+use Rattle.am9517.specs.Answers.{Answer}
+use Rattle.std.proofs.Common.{Option}
 use Rattle.am9517_sheet.specs.declared.forms.Form.{Form}
 use Rattle.board.specs.declared.Board.{Board}
 use Rattle.board.specs.declared.Chip.{Chip}
@@ -45,7 +46,7 @@ by_operation b op beside gs same zeros =
     refuses _ gs _ (board_says b op ∙ same) (λ h. (board_demand_1 b op).stays (λ e. h (sym same ∙ sym (board_says b op) ∙ e))) (λ h. zeros (λ e. h (sym same ∙ e)))
 
 -- a refused operation has no value
-no_value : (n : ℕ) (was next : Board) (a : Answer) → ¬ (n ≡ 0) → Zeros (value_of (board_outcome n was next a).answer ∷ [])
+no_value : (n : ℕ) (was next : Board) (a : Option ℕ) → ¬ (n ≡ 0) → Zeros (value_of (board_outcome n was next a).answer ∷ [])
 unfolding board_outcome
 no_value n was next a h = also (when_each (λ (x : Answer). value_of x ≡ 0) (eqb n 0) (λ e. absurd (h (eqb-true _ _ e))) (λ e. refl)) none
 

@@ -12,15 +12,10 @@ use Rattle.am9517.specs.Ranges.{valid, fields_valid}
 use Rattle.am9517.specs.Refusals.{refusal}
 use Rattle.am9517.specs.Serving.{picked, granted}
 use Rattle.am9517.specs.declared.Controller.{Controller}
-use Rattle.am9517.specs.declared.Answer.{Answer}
-use Rattle.am9517.specs.declared.Answer.TheVariants.{Done, Value, Refused}
-use Rattle.am9517_service.specs.declared.RoundAnswer.TheVariants.{Quiet, Stopped}
-use Rattle.am9517_service.specs.declared.RoundAnswer.TheVariants as rounds
 use Rattle.am9517_service.specs.Answers.{Given, stopped}
 use Rattle.am9517_service.specs.Round.{nobody, is_ended}
 use Rattle.am9517_sheet.specs.declared.forms.Form.{Form}
-use Rattle.am9517_sheet.specs.declared.SheetAnswer.TheVariants as sheet
-use Rattle.am9517_sheet.specs.Sheet.{sheet_refusal_number, answer_of}
+use Rattle.am9517_sheet.specs.Sheet.{sheet_read_grounds, answer_of}
 use Rattle.board.specs.declared.Board.{Board}
 use Rattle.board.specs.declared.Chip.{Chip}
 use Rattle.board.specs.declared.Chip.TheVariants.{First, Second}
@@ -37,12 +32,16 @@ use Rattle.demands.specs.Lists.{All, none, also}
 use Rattle.demands.proofs.Turns.{place}
 use Rattle.demands.proofs.Fairness.{Early, picked_early, lowest_granted, after_write_kept, after_read_kept, run_kept}
 use Rattle.words.proofs.ChoiceLaws.{when_both, when_each, both}
+use Rattle.board.proofs.RefusalLaws.{number_said}
 use Rattle.board.proofs.OutcomeLaws.{stated, pair, each, grant_passed, picked_few}
 use Rattle.board_demands.specs.Operations.{BoardOp, Write, Read, Pins, Reset, Waits, Grant, Run, Round, SheetWriting, SheetReading, next}
 use Rattle.board_demands.specs.Grants.{BoardGranted, granted as granted-on, told, round_grants, made, grants, channels}
 use Rattle.board_demands.specs.Fairness.{Traced, Trace, Contends, BoardFair, BoardDemand3, RoundGrantsAreGrants}
 use Rattle.board_demands.proofs.Ranges.{Stands, round_stands, stands_on, g, bytes, room, ran}
 use Rattle.board_demands.proofs.Turns.{BoardTurns, over, own_turn, other_turn, turns_share, turns_turn, turns_lead}
+use Rattle.std.proofs.Common.{Option, Some, None, Ok, Err}
+use Rattle.am9517.specs.Refusals.{numbered}
+use Rattle.am9517_service.specs.declared.RoundEnd.TheVariants.{Quiet, Stopped}
 
 -- the lowest channel of a chip in its ranges is one of four
 lowest_few : (c : Controller) → valid c ≡ true → c.lowest < 4
@@ -188,37 +187,29 @@ with_unmoved b Second c e = record { lowest = go; arbiter = refl }
     go Second = e
 
 -- what stays where the operation is accepted
-outcome_unmoved : (n : ℕ) (b x : Board) (a : Answer) → (n ≡ 0 → Unmoved b x) → Unmoved b (board_outcome n b x a).board
+outcome_unmoved : (n : ℕ) (b x : Board) (a : Option ℕ) → (n ≡ 0 → Unmoved b x) → Unmoved b (board_outcome n b x a).board
 unfolding board_outcome
 outcome_unmoved n b x a h = when_each (Unmoved b) (eqb n 0) (λ e. h (eqb-true _ _ e)) (λ e. unmoved b)
 
-number_said : (n : ℕ) → sheet_refusal_number (answer_of n) ≡ n
-unfolding answer_of when
-number_said n = go (eqb n 0) refl
-  where
-    go : (t : Bool) → eqb n 0 ≡ t → sheet_refusal_number (when t sheet.Done (sheet.Refused n)) ≡ n
-    go true e = sym (eqb-true _ _ e)
-    go false e = refl
-
 write_unmoved : (b : Board) (r x : ℕ) → Traced b (Write r x) → Unmoved b (next b (Write r x))
 write_unmoved b r x t =
-    outcome_unmoved _ b _ Done (λ free. with_unmoved b (addressed r) _ (after_write_kept (chip b (addressed r)) (own r) x (λ e. t e ((stated _ _ _ _ Done refl refl).1 ∙ free))))
+    outcome_unmoved _ b _ None (λ free. with_unmoved b (addressed r) _ (after_write_kept (chip b (addressed r)) (own r) x (λ e. t e ((stated _ _ _ _ None refl refl).1 ∙ free))))
 
 read_unmoved : (b : Board) (r : ℕ) → Unmoved b (next b (Read r))
-read_unmoved b r = outcome_unmoved _ b _ (Value _) (λ free. with_unmoved b (addressed r) _ (after_read_kept (chip b (addressed r)) (own r)))
+read_unmoved b r = outcome_unmoved _ b _ (Some _) (λ free. with_unmoved b (addressed r) _ (after_read_kept (chip b (addressed r)) (own r)))
 
 pins_unmoved : (b : Board) (p : ℕ) → Unmoved b (next b (Pins p))
-pins_unmoved b p = outcome_unmoved _ b _ Done (λ free. record { lowest = go; arbiter = refl })
+pins_unmoved b p = outcome_unmoved _ b _ None (λ free. record { lowest = go; arbiter = refl })
   where
     go : (w : Chip) → (chip (pinned b p) w).lowest ≡ (chip b w).lowest
     go First = refl
     go Second = refl
 
 waits_unmoved : (b : Board) (which : Chip) (n : ℕ) → Unmoved b (next b (Waits which n))
-waits_unmoved b which n = outcome_unmoved _ b _ Done (λ free. with_unmoved b which _ refl)
+waits_unmoved b which n = outcome_unmoved _ b _ None (λ free. with_unmoved b which _ refl)
 
 reset_unmoved : (b : Board) → Traced b Reset → Unmoved b (next b Reset)
-reset_unmoved b t = outcome_unmoved _ b _ Done (λ free. absurd (t tt ((stated _ _ _ _ Done refl refl).1 ∙ free)))
+reset_unmoved b t = outcome_unmoved _ b _ None (λ free. absurd (t tt ((stated _ _ _ _ None refl refl).1 ∙ free)))
 
 run_unmoved : (b : Board) (m d r : List ℕ) (limit eop : ℕ) → Unmoved b (next b (Run m d r limit eop))
 unfolding board_ran_of
@@ -226,13 +217,14 @@ run_unmoved b m d r limit eop =
     when_both (λ (g : BoardGiven). Unmoved b g.ran.board) _ (with_unmoved b (server b) _ (run_kept (chip b (server b)) m d r limit eop)) (unmoved b)
 
 reading_unmoved : (b : Board) (form : Form) (which : Chip) (bytes : List ℕ) → Traced b (SheetReading form which bytes) → Unmoved b (next b (SheetReading form which bytes))
+unfolding answer_of
 reading_unmoved b form which bytes t =
-    with_unmoved b which _ (when_each (λ (x : Controller). x.lowest ≡ (chip b which).lowest) _ (λ e. absurd (t tt (number_said _ ∙ eqb-true _ _ e))) (λ e. refl))
+    with_unmoved b which _ (when_each (λ (x : Controller). x.lowest ≡ (chip b which).lowest) _ (λ e. absurd (t tt (number_said (sheet_read_grounds form bytes) tt refl ∙ eqb-true _ _ e))) (λ e. refl))
 
 -- a call of grant, by whether it is accepted, before what came after it
 grant_linked : (which : Chip) (b : Board) (t : Bool) (later : List BoardGranted) → eqb (refusal (board_grant_grounds b)) 0 ≡ t
     → Linked which (chip (when t (granted_to b) b) which).lowest (when t (granted_to b) b).granted_last later
-    → Linked which (chip b which).lowest b.granted_last (told b (when t (Value (winning_channel b)) (Refused (refusal (board_grant_grounds b)))) ++ later)
+    → Linked which (chip b which).lowest b.granted_last (told b (when t (Ok (Some (winning_channel b))) (Err (numbered (refusal (board_grant_grounds b))))) ++ later)
 unfolding when
 grant_linked which b true later e l =
     let p = (grant_passed b (refusal (board_grant_grounds b)) refl (eqb-true _ _ e)).pair in
@@ -270,8 +262,8 @@ linked_round which (suc left) d w at later l =
     go : (q t : Bool) → quiet w.board ≡ q → not (is_ended (service_next w d).reason) ≡ t
         → (Stands (after_service w d) → Linked which (chip (board_round_of left d (after_service w d)).course.board which).lowest (board_round_of left d (after_service w d)).course.board.granted_last later
         → Linked which (chip (after_service w d).board which).lowest (after_service w d).board.granted_last (round_grants left d (after_service w d) ++ later))
-        → Linked which (chip (first (board_close w Quiet if q ∷ []) (first (board_close (after_service w d) (Stopped (service_next w d).reason) if t ∷ []) (board_round_of left d (after_service w d)))).course.board which).lowest
-        (first (board_close w Quiet if q ∷ []) (first (board_close (after_service w d) (Stopped (service_next w d).reason) if t ∷ []) (board_round_of left d (after_service w d)))).course.board.granted_last later
+        → Linked which (chip (first (board_close w (Ok Quiet) if q ∷ []) (first (board_close (after_service w d) (Ok (Stopped (service_next w d).reason)) if t ∷ []) (board_round_of left d (after_service w d)))).course.board which).lowest
+        (first (board_close w (Ok Quiet) if q ∷ []) (first (board_close (after_service w d) (Ok (Stopped (service_next w d).reason)) if t ∷ []) (board_round_of left d (after_service w d)))).course.board.granted_last later
         → Linked which (chip w.board which).lowest w.board.granted_last (first ([] if q ∷ []) (granted-on w.board (winning_channel w.board) ∷ first ([] if t ∷ []) (round_grants left d (after_service w d))) ++ later)
     go true t eq et ih l = l
     go false true eq et ih l =
@@ -292,8 +284,8 @@ unfolding board_rounded_of board_closed when
 round_linked which b m d r k later l = go (eqb (refusal (board_round_grounds b m k)) 0) refl l
   where
     go : (t : Bool) → eqb (refusal (board_round_grounds b m k)) 0 ≡ t
-        → Linked which (chip (when t (board_closed (board_round_of k d (board_beginning b m r))) (board_closed (board_close (board_beginning b m r) (rounds.Refused (refusal (board_round_grounds b m k)))))).rounded.board which).lowest
-        (when t (board_closed (board_round_of k d (board_beginning b m r))) (board_closed (board_close (board_beginning b m r) (rounds.Refused (refusal (board_round_grounds b m k)))))).rounded.board.granted_last later
+        → Linked which (chip (when t (board_closed (board_round_of k d (board_beginning b m r))) (board_closed (board_close (board_beginning b m r) (Err (numbered (refusal (board_round_grounds b m k))))))).rounded.board which).lowest
+        (when t (board_closed (board_round_of k d (board_beginning b m r))) (board_closed (board_close (board_beginning b m r) (Err (numbered (refusal (board_round_grounds b m k))))))).rounded.board.granted_last later
         → Linked which (chip b which).lowest b.granted_last (when t (round_grants k d (board_beginning b m r)) [] ++ later)
     go true e l = linked_round which k d (board_beginning b m r) (round_stands b m r k (eqb-true _ _ e)) later l
     go false e l = l
@@ -322,24 +314,24 @@ board_demand_3 b ops which n past window rest small u same h =
     fair_window which n small past window rest (subst (Linked which (chip b which).lowest b.granted_last) same (linked_of which b ops u)) h
 
 -- a grant on an idle board in its ranges is made, and told
-pub grant_made : (b : Board) → pair_valid b ≡ true → serves b ≡ false → quiet b ≡ false → board_grant_of b ≡ record { board = granted_to b; answer = Value (winning_channel b) }
+pub grant_made : (b : Board) → pair_valid b ≡ true → serves b ≡ false → quiet b ≡ false → board_grant_of b ≡ record { board = granted_to b; answer = Ok (Some (winning_channel b)) }
 unfolding board_outcome refusal first when
 grant_made b v i q = simp (v, i, q)
 
-round_granted : (left : ℕ) (d : List ℕ) (w : BoardCourse) → Stands w → All (λ (g : BoardGranted). (board_grant_of g.before).answer ≡ Value g.channel) (round_grants left d w)
+round_granted : (left : ℕ) (d : List ℕ) (w : BoardCourse) → Stands w → All (λ (g : BoardGranted). (board_grant_of g.before).answer ≡ Ok (Some g.channel)) (round_grants left d w)
 unfolding round_grants first
 round_granted zero d w at = none
 round_granted (suc left) d w at =
-    let P : List BoardGranted → Type 0 = All (λ (g : BoardGranted). (board_grant_of g.before).answer ≡ Value g.channel) in
+    let P : List BoardGranted → Type 0 = All (λ (g : BoardGranted). (board_grant_of g.before).answer ≡ Ok (Some g.channel)) in
     when_each P (quiet w.board) (λ e. none)
     (λ some. also (ap (λ (o : BoardOutcome). o.answer) (grant_made w.board at.range at.idle some)) (when_each P (not (is_ended (service_next w d).reason)) (λ e. none) (λ e. round_granted left d (after_service w d) (stands_on d w at some (not-false _ e)))))
 
 pub round_grants_are_grants : RoundGrantsAreGrants
 round_grants_are_grants b m d r k =
-    when_each (All (λ (g : BoardGranted). (board_grant_of g.before).answer ≡ Value g.channel)) (eqb (refusal (board_round_grounds b m k)) 0)
+    when_each (All (λ (g : BoardGranted). (board_grant_of g.before).answer ≡ Ok (Some g.channel))) (eqb (refusal (board_round_grounds b m k)) 0)
     (λ e. round_granted k d (board_beginning b m r) (round_stands b m r k (eqb-true _ _ e))) (λ e. none)
 
 -- a grant on an idle board in its ranges is made, and told
-grant_told : (b : Board) → pair_valid b ≡ true → serves b ≡ false → quiet b ≡ false → (board_grant_of b).answer ≡ Value (winning_channel b)
+grant_told : (b : Board) → pair_valid b ≡ true → serves b ≡ false → quiet b ≡ false → (board_grant_of b).answer ≡ Ok (Some (winning_channel b))
 unfolding board_outcome refusal first when
 grant_told b v i q = simp (v, i, q)

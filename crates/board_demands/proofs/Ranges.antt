@@ -16,13 +16,11 @@ use Rattle.am9517.specs.Ranges.{valid}
 use Rattle.am9517.specs.Refusals.{refusal, idle, busy}
 use Rattle.am9517.specs.Serving.{picked, granted}
 use Rattle.am9517.specs.Answers.{outcome}
-use Rattle.am9517.specs.declared.Answer.{Answer}
 use Rattle.am9517.specs.declared.Controller.{Controller}
 use Rattle.am9517.specs.declared.Edition.{Edition}
 use Rattle.am9517_service.specs.declared.Reason.{Reason}
 use Rattle.am9517_service.specs.declared.Reason.TheVariants.{Ended, Dropped, Cascade, Limit, Short}
-use Rattle.am9517_service.specs.declared.RunAnswer.{RunAnswer}
-use Rattle.am9517_service.specs.declared.RunAnswer.TheVariants.{Stopped, Refused}
+use Rattle.am9517_service.specs.Answers.{RunAnswer}
 use Rattle.am9517_service.specs.Answers.{Given, run_refusal_number, wrong_size, run_grounds, stopped, ran_of}
 use Rattle.am9517_service.specs.Round.{nobody, run_next, is_ended}
 use Rattle.am9517_sheet.specs.declared.forms.Form.{Form}
@@ -53,6 +51,7 @@ use Rattle.board.proofs.RunLaws.{server_busy, run_passed}
 use Rattle.demands.proofs.Ranges.{ranges_kept, not_by_1, fresh_valid}
 use Rattle.demands.proofs.Services.{stops_as_said}
 use Rattle.board_demands.proofs.Refusals.{board_demand_1}
+use Rattle.std.proofs.Common.{Option, Ok, Err}
 
 abbrev pub Valid : Board → Type 0
 Valid b = pair_valid b ≡ true
@@ -89,12 +88,12 @@ turned_valid b First c p v h = of_pair (turned_to b First c) (record { first = v
 turned_valid b Second c p v h = of_pair (turned_to b Second c) (record { first = p.first; second = v; last = omega arith; one = other_idle b Second c h })
 
 -- what is left where an operation is accepted, or refused
-outcome_valid : (b : Board) → Valid b → (n : ℕ) (to : Board) (told : Answer) → (n ≡ 0 → Valid to) → Valid (board_outcome n b to told).board
+outcome_valid : (b : Board) → Valid b → (n : ℕ) (to : Board) (told : Option ℕ) → (n ≡ 0 → Valid to) → Valid (board_outcome n b to told).board
 unfolding board_outcome
 outcome_valid b v n to told h = when_each Valid (eqb n 0) (λ e. h (eqb-true _ _ e)) (λ e. v)
 
 -- what an accepted operation of a chip leaves is in its ranges
-outcome_next : (n : ℕ) (c to : Controller) (a : Answer) → n ≡ 0 → (outcome n c to a).controller ≡ to
+outcome_next : (n : ℕ) (c to : Controller) (a : Option ℕ) → n ≡ 0 → (outcome n c to a).controller ≡ to
 unfolding outcome when
 outcome_next n c to a e = rw e refl
 
@@ -109,7 +108,7 @@ unfolding refusal first
 idle_free b further e = let idle = passed _ _ _ (omega arith) (passed _ _ _ (omega arith) e).next in (idle.test, idle.next)
 
 -- an operation of one chip, on an idle board
-chip_valid : (b : Board) → Valid b → (which : Chip) (op : alone.Op) (n : ℕ) (to : Controller) (told : Answer) → serves b ≡ false → n ≡ 0
+chip_valid : (b : Board) → Valid b → (which : Chip) (op : alone.Op) (n : ℕ) (to : Controller) (told : Option ℕ) → serves b ≡ false → n ≡ 0
     → alone.next (chip b which) op ≡ (outcome n (chip b which) to told).controller → Valid (with_chip b which to)
 chip_valid b v which op n to told idle free is =
     let own : valid to ≡ true = subst (λ (c : Controller). valid c ≡ true) (is ∙ outcome_next n (chip b which) to told free) (ranges_kept.kept (chip b which) op (each b (pair b v) which)) in
@@ -193,8 +192,8 @@ granted_open c n = refl
 
 -- whether a service is open behind this answer
 abbrev open_after : RunAnswer → ℕ
-open_after (Stopped e) = open_behind e
-open_after (Refused n) = 0
+open_after (Ok e) = open_behind e
+open_after (Err r) = 0
 
 ended_over : (e : Reason) → is_ended e ≡ true → open_behind e ≡ 0
 ended_over Ended h = refl

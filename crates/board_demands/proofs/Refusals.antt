@@ -9,9 +9,7 @@ use borrow.Author.Tests.{eqb-true, eqb-false, ne_eqb}
 use Rattle.words.specs.Grounds.{Ground, first}
 use Rattle.am9517.specs.Refusals.{refusal}
 use Rattle.am9517.specs.Answers.{refusal_number}
-use Rattle.am9517.specs.declared.Answer.{Answer}
 use Rattle.am9517.specs.declared.Controller.{Controller}
-use Rattle.am9517_service.specs.declared.RoundAnswer.TheVariants.{Refused}
 use Rattle.am9517_service.specs.Answers.{run_refusal_number, ran_of}
 use Rattle.am9517_service.specs.RoundAnswers.{round_refusal_number}
 use Rattle.board.specs.declared.Board.{Board}
@@ -28,9 +26,12 @@ use Rattle.board_demands.specs.Operations.{BoardOp, Write, Read, Pins, Reset, Wa
 use Rattle.board_demands.specs.Refusals.{grounds, BoardRefuses, BoardDemand1}
 use Rattle.words.proofs.ChoiceLaws.{when_both, when_each, when_miss}
 use Rattle.board.proofs.ChipLaws.{chip_back}
+use Rattle.board.proofs.RefusalLaws.{named, few, number_back}
 use Rattle.board.proofs.OutcomeLaws.{stated}
 use Rattle.board.proofs.RunLaws.{ran_is}
 use Rattle.demands.proofs.Refusals.{refusal_exactly, Zeros, demand_1}
+use Rattle.std.proofs.Common.{Option, Err}
+use Rattle.am9517.specs.Refusals.{numbered}
 
 -- from an answer that says the number of the first ground, and a refusal by that number that changes nothing
 refuses : (b : Board) (op : BoardOp) → said b op ≡ refusal (grounds b op)
@@ -46,17 +47,17 @@ refuses b op is stays zeros =
     }
 
 -- an operation by itself
-outcome_stays : (n : ℕ) (b next : Board) (told : Answer) → ¬ (n ≡ 0) → (board_outcome n b next told).board ≡ b
+outcome_stays : (n : ℕ) (b next : Board) (told : Option ℕ) → ¬ (n ≡ 0) → (board_outcome n b next told).board ≡ b
 unfolding board_outcome
 outcome_stays n b next told h = when_miss _ _ _ (ne_eqb n 0 h)
 
-plain : (b : Board) (op : BoardOp) (next : Board) (told : Answer) → refusal_number told ≡ 0
+plain : (b : Board) (op : BoardOp) (next : Board) (told : Option ℕ) → named (grounds b op) ≡ true
     → said b op ≡ refusal_number (board_outcome (refusal (grounds b op)) b next told).answer
     → after b op ≡ before (board_outcome (refusal (grounds b op)) b next told).board Reset
     → before b op ≡ before b Reset
     → (¬ (refusal (grounds b op) ≡ 0) → Zeros (counts b op)) → BoardRefuses b op
 plain b op next told h is to from zeros =
-    refuses b op (is ∙ (stated _ _ b next told h refl).1) (λ no. to ∙ ap (λ (x : Board). before x Reset) (outcome_stays _ b next told no) ∙ sym from) zeros
+    refuses b op (is ∙ (stated _ (grounds b op) b next told h refl).1) (λ no. to ∙ ap (λ (x : Board). before x Reset) (outcome_stays _ b next told no) ∙ sym from) zeros
 
 -- what is said exactly by the first ground is its number
 exact_number : (n : ℕ) (gs : List (Ground ℕ)) → ((k : ℕ) → ¬ (k ≡ 0) → (n ≡ k) ↔ own-refusals.First k gs) → n ≡ refusal gs
@@ -89,10 +90,11 @@ run_says b m d r limit eop = go (eqb (refusal (board_run_grounds b m)) 0) refl
         (ran_on b (server b) g.ran) refl in
         ap (λ (x : BoardGiven). run_refusal_number x.ran.answer) (sym is.0) ∙ is.1
     go false e = ap (λ (x : BoardGiven). run_refusal_number x.ran.answer) (run_refused b m d r limit eop (eqb-false _ _ e))
+        ∙ number_back _ (few (board_run_grounds b m) refl) (eqb-false _ _ e)
 
 -- a round
 pub round_refused : (b : Board) (m d r : List ℕ) (k : ℕ) → ¬ (refusal (board_round_grounds b m k) ≡ 0)
-    → board_rounded_of b m d r k ≡ board_closed (board_close (board_beginning b m r) (Refused (refusal (board_round_grounds b m k))))
+    → board_rounded_of b m d r k ≡ board_closed (board_close (board_beginning b m r) (Err (numbered (refusal (board_round_grounds b m k)))))
 unfolding board_rounded_of
 round_refused b m d r k h = when_miss _ _ _ (ne_eqb _ 0 h)
 
@@ -107,7 +109,7 @@ round_says : (b : Board) (m d r : List ℕ) (k : ℕ) → said b (Round m d r k)
 unfolding board_rounded_of board_closed
 round_says b m d r k =
     when_each (λ (x : BoardRoundGiven). round_refusal_number x.rounded.answer ≡ refusal (board_round_grounds b m k)) _
-    (λ e. round_number k d (board_beginning b m r) ∙ sym (eqb-true _ _ e)) (λ e. refl)
+    (λ e. round_number k d (board_beginning b m r) ∙ sym (eqb-true _ _ e)) (λ e. number_back _ (few (board_round_grounds b m k) refl) (eqb-false _ _ e))
 
 round_stays : (b : Board) (m d r : List ℕ) (k : ℕ) → ¬ (refusal (board_round_grounds b m k) ≡ 0) → after b (Round m d r k) ≡ before b (Round m d r k)
 unfolding board_closed

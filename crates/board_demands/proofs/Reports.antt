@@ -12,8 +12,7 @@ use Rattle.words.specs.Choice.{when}
 use Rattle.words.specs.Grounds.{◌if◌, first}
 use Rattle.am9517.specs.Refusals.{refusal}
 use Rattle.am9517.specs.Serving.{picked}
-use Rattle.am9517_service.specs.declared.RoundAnswer.{RoundAnswer}
-use Rattle.am9517_service.specs.declared.RoundAnswer.TheVariants.{Quiet, Stopped, Refused}
+use Rattle.am9517_service.specs.Round.{RoundAnswer}
 use Rattle.am9517_service.specs.Round.{is_ended}
 use Rattle.board.specs.declared.Board.{Board}
 use Rattle.board.specs.declared.Chip.{Chip}
@@ -27,6 +26,9 @@ use Rattle.demands.specs.Lists.{count}
 use Rattle.board.proofs.OutcomeLaws.{picked_few, winner_wants}
 use Rattle.board_demands.specs.Grants.{granted, round_grants, channels}
 use Rattle.board_demands.specs.Fairness.{BoardReports}
+use Rattle.std.proofs.Common.{Ok, Err}
+use Rattle.am9517.specs.Refusals.{numbered}
+use Rattle.am9517_service.specs.declared.RoundEnd.TheVariants.{Quiet, Stopped}
 
 plus_none : (x : ℕ) → x + 0 ≡ x
 plus_none x = omega arith
@@ -69,7 +71,7 @@ counted n (suc left) d w size =
 
     go : (q t : Bool) → quiet w.board ≡ q
         → get_or (board_round_of left d (after_service w d)).course.services n 0 ≡ get_or (after_service w d).services n 0 + count n (channels (round_grants left d (after_service w d)))
-        → get_or (first (board_close w Quiet if q ∷ []) (first (board_close (after_service w d) (Stopped (service_next w d).reason) if t ∷ []) (board_round_of left d (after_service w d)))).course.services n 0
+        → get_or (first (board_close w (Ok Quiet) if q ∷ []) (first (board_close (after_service w d) (Ok (Stopped (service_next w d).reason)) if t ∷ []) (board_round_of left d (after_service w d)))).course.services n 0
         ≡ get_or w.services n 0 + count n (channels (first ([] if q ∷ []) (granted w.board (winning_channel w.board) ∷ first ([] if t ∷ []) (round_grants left d (after_service w d)))))
     go true t eq ih = omega arith
     go false true eq ih = omega (arith, begun w d eq size n)
@@ -111,4 +113,4 @@ module _ (b : Board) (m d r : List ℕ) (k n : ℕ) where
 
 pub board_reports : BoardReports
 unfolding board_rounded_of
-board_reports b m d r k n = reported_by b m d r k n (eqb (refusal (board_round_grounds b m k)) 0) (Refused (refusal (board_round_grounds b m k)))
+board_reports b m d r k n = reported_by b m d r k n (eqb (refusal (board_round_grounds b m k)) 0) (Err (numbered (refusal (board_round_grounds b m k))))

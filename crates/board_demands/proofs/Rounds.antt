@@ -13,12 +13,9 @@ use Rattle.am9517.specs.Refusals.{refusal, busy}
 use Rattle.am9517.specs.Serving.{picked}
 use Rattle.am9517.specs.Answers.{refusal_number}
 use Rattle.am9517.specs.declared.Controller.{Controller}
-use Rattle.am9517.specs.declared.Answer.TheVariants.{Value}
 use Rattle.am9517_service.specs.declared.Reason.{Reason}
 use Rattle.am9517_service.specs.declared.Reason.TheVariants.{Ended, Dropped, Limit}
-use Rattle.am9517_service.specs.declared.RunAnswer.TheVariants as run-answer
-use Rattle.am9517_service.specs.declared.RoundAnswer.{RoundAnswer}
-use Rattle.am9517_service.specs.declared.RoundAnswer.TheVariants.{Done, Quiet, Stopped}
+use Rattle.am9517_service.specs.Round.{RoundAnswer}
 use Rattle.am9517_service.specs.World.{Stop}
 use Rattle.am9517_service.specs.Answers.{Given, given, run_refusal_number, wrong_size, stopped, ran_of}
 use Rattle.am9517_service.specs.Round.{Course, course, nobody, run_next, with_run, after_next, is_ended}
@@ -48,6 +45,8 @@ use Rattle.board_demands.proofs.Refusals.{round_refused, board_says}
 use Rattle.board_demands.proofs.Ranges.{Valid, board_ranges_kept, Stands, round_stands, stands_on, granted_open, who, g, ran, still, left_room}
 use Rattle.board_demands.proofs.Fairness.{turned_chip, grant_made}
 use Rattle.board_demands.proofs.Reports.{board_reports}
+use Rattle.std.proofs.Common.{Some, Ok}
+use Rattle.am9517_service.specs.declared.RoundEnd.TheVariants.{Done, Quiet, Stopped}
 
 -- three choices by one test
 when_three : {A B C : Type 0} (P : A → B → C → Type 0) (t : Bool) {a a' : A} {b b' : B} {c c' : C} → (t ≡ true → P a b c) → (t ≡ false → P a' b' c') → P (when t a a') (when t b b') (when t c c')
@@ -88,7 +87,7 @@ record Leads (w : BoardCourse) (e : Reason) (left : ℕ) (x : BoardClose) (gs : 
   come : Come w.memory w.room w.totals e x.course.memory x.course.room x.course.totals x.answer (eqb (length (grants w.board ops)) left) (runs w.board ops)
 
 -- no calls are left
-leads_nowhere : (w : BoardCourse) (e : Reason) (left : ℕ) (a : RoundAnswer) → a ≡ closing (run-answer.Stopped e) (eqb 0 left) → Leads w e left (board_close w a) [] []
+leads_nowhere : (w : BoardCourse) (e : Reason) (left : ℕ) (a : RoundAnswer) → a ≡ closing (Ok e) (eqb 0 left) → Leads w e left (board_close w a) [] []
 leads_nowhere w e left a is =
     record { accepted = tt; leaves = refl; makes = refl; come = come_nowhere w.memory w.room w.totals e a (eqb 0 left) is }
 
@@ -102,7 +101,7 @@ module _ (d : List ℕ) (w : BoardCourse) (at : Stands w) (some : quiet w.board 
   abbrev x : Stop
   x = service_next w d
 
-  o : board_grant_of b ≡ record { board = granted_to b; answer = Value (winning_channel b) }
+  o : board_grant_of b ≡ record { board = granted_to b; answer = Ok (Some (winning_channel b)) }
   o = grant_made b at.range at.idle some
 
   g_busy : busy (g d w at some) ≡ true
@@ -136,7 +135,7 @@ module _ (d : List ℕ) (w : BoardCourse) (at : Stands w) (some : quiet w.board 
   unfolding stopped
   seen =
       let c = x.world.controller in
-      let with_it : Controller → Given = λ k. given (record { controller = k; answer = run-answer.Stopped x.reason; counts = x.world.counts }) x.world.memory x.world.room in
+      let with_it : Controller → Given = λ k. given (record { controller = k; answer = Ok x.reason; counts = x.world.counts }) x.world.memory x.world.room in
       ap (served (next b Grant)) ran_on_lem
       ∙ ap (λ (k : Chip). with_it (chip (with_chip (granted_to b) (who d w at some) c) k)) (ap (λ (y : BoardOutcome). server y.board) o ∙ is_server)
       ∙ ap with_it (chip_put (granted_to b) (who d w at some) c)
@@ -189,7 +188,7 @@ calls_after left d y =
 -- the round stops behind this service, or goes on; and so do its grants
 abbrev stop_or_on : ℕ → List ℕ → BoardCourse → BoardClose
 stop_or_on left d w =
-    first (board_close (after_service w d) (Stopped (service_next w d).reason) if not (is_ended (service_next w d).reason) ∷ []) (board_round_of left d (after_service w d))
+    first (board_close (after_service w d) (Ok (Stopped (service_next w d).reason)) if not (is_ended (service_next w d).reason) ∷ []) (board_round_of left d (after_service w d))
 
 abbrev grants_after : ℕ → List ℕ → BoardCourse → List BoardGranted
 grants_after left d w = first ([] if not (is_ended (service_next w d).reason) ∷ []) (round_grants left d (after_service w d))
@@ -212,10 +211,10 @@ module _ (left : ℕ) (d : List ℕ) (w : BoardCourse) (at : Stands w) (some : q
 leads : (left : ℕ) (d : List ℕ) (w : BoardCourse) (e : Reason) → is_ended e ≡ true → Stands w
     → Leads w e left (board_round_of left d w) (round_grants left d w) (board_calls_from left w.board w.memory (bytes_left d w) (room_left_lem w))
 unfolding board_round_of round_grants board_calls_from first
-leads zero d w e h at = leads_nowhere w e 0 Done (sym (when_hit (is_ended e) _ _ h ∙ when_hit (eqb 0 0) _ _ refl))
+leads zero d w e h at = leads_nowhere w e 0 (Ok Done) (sym (when_hit (is_ended e) _ _ h ∙ when_hit (eqb 0 0) _ _ refl))
 leads (suc left) d w e h at =
     when_three (Leads w e (suc left)) (quiet w.board)
-    (λ none. leads_nowhere w e (suc left) Quiet (sym (when_hit (is_ended e) _ _ h ∙ when_miss (eqb 0 (suc left)) _ _ (eqb-zero-suc left))))
+    (λ none. leads_nowhere w e (suc left) (Ok Quiet) (sym (when_hit (is_ended e) _ _ h ∙ when_miss (eqb 0 (suc left)) _ _ (eqb-zero-suc left))))
     (λ some. first_two d w at some e left _ _ _
     (subst (λ (y : BoardGiven). Leads (after_service w d) (service_next w d).reason left (stop_or_on left d w) (grants_after left d w) (calls_after left (bytes_left d w) y)) (sym (ran_on_lem d w at some))
     (leads_behind left d w at some (λ u. leads left d (after_service w d) (service_next w d).reason u (stands_on d w at some u)))))
@@ -260,7 +259,7 @@ board_round_is_calls b m d r k = go (eqb (refusal (board_round_grounds b m k)) 0
         (is_calls b m d r k there there.answer _ _ (round_accepted b m d r k free) (when_hit _ _ _ e) (λ z. refl) (leads k d (board_beginning b m r) Ended refl (round_stands b m r k free)))
     go false e =
         let bad = eqb-false _ _ e in
-        let a = closing (run-answer.Stopped Ended) (eqb 0 k) in
+        let a = closing (Ok Ended) (eqb 0 k) in
         subst (IsBoardCalls b m d r k) (sym (when_miss _ _ _ e))
         (is_calls b m d r k (board_close (board_beginning b m r) a) _ [] [] (round_refused b m d r k bad) (when_miss _ _ _ e) (λ z. absurd (bad (sym (board_says b (Round m d r k)) ∙ z))) (leads_nowhere (board_beginning b m r) Ended k a refl))
 
@@ -291,7 +290,7 @@ module _ (e : Reason) (Keeps : Controller → Type 0)
       (λ some. when_each P (not (is_ended (service_next w d).reason))
       (λ u. other d (winners w) (k (winner w.board)) (winner_wants w.board some) (not-true _ u)) (λ u. round_other left d (after_service w d) (next_keeps d w k)))
 
-  never_said : (b : Board) (m d r : List ℕ) (k : ℕ) → ((which : Chip) → Keeps (chip b which)) → ¬ ((board_rounded_of b m d r k).rounded.answer ≡ Stopped e)
+  never_said : (b : Board) (m d r : List ℕ) (k : ℕ) → ((which : Chip) → Keeps (chip b which)) → ¬ ((board_rounded_of b m d r k).rounded.answer ≡ Ok (Stopped e))
   unfolding board_rounded_of board_closed
   never_said b m d r k h is =
       subst (Other e) is (when_both (λ (y : BoardRoundGiven). Other e y.rounded.answer) _ (round_other k d (board_beginning b m r) h) tt) refl

@@ -1,12 +1,11 @@
 -- A controller alone on the board does what it does without the board: the other in its ranges, idle and never entitled, the arbiter in its
 -- range, register numbers and pins taken to that chip's own.
-use Rattle.std.specs.Prelude.{ℕ, ◌+◌, ◌*◌, ◌≤◌, ◌≡◌, true, false, List, [], ◌∷◌, ◌++◌, ltb}
+use Rattle.std.specs.Prelude.{ℕ, ◌+◌, ◌*◌, ◌≤◌, ◌≡◌, true, false, List, [], ◌∷◌, ◌++◌, ltb, Some, None, Ok, Err}
 use Rattle.words.specs.Choice.{when}
 use Rattle.am9517.specs.Ranges.{valid}
 use Rattle.am9517.specs.Refusals.{busy}
 use Rattle.am9517.specs.Answers.{write_of, read_of, pins_of, reset_of, waits_of, grant_of}
-use Rattle.am9517.specs.declared.Answer.{Answer}
-use Rattle.am9517.specs.declared.Answer.TheVariants.{Done, Value, Refused}
+use Rattle.am9517.specs.Answers.{Answer}
 use Rattle.am9517.specs.declared.Outcome.{Outcome}
 use Rattle.am9517_service.specs.Answers.{ran_of}
 use Rattle.am9517_service.specs.Round.{nobody}
@@ -43,9 +42,9 @@ outcome_on b which o = record { board = with_chip b which o.controller; answer =
 
 -- a grant, on the board: the channel is one of eight, and the chip is granted last; a refusal leaves the board
 abbrev pub grant_said : Board → Chip → Outcome → Answer → BoardOutcome
-grant_said b which o Done = record { board = b; answer = Done }
-grant_said b which o (Value n) = record { board = turned_to b which o.controller; answer = Value (channel_of which n) }
-grant_said b which o (Refused n) = record { board = b; answer = Refused n }
+grant_said b which o (Ok None) = record { board = b; answer = Ok None }
+grant_said b which o (Ok (Some n)) = record { board = turned_to b which o.controller; answer = Ok (Some (channel_of which n)) }
+grant_said b which o (Err r) = record { board = b; answer = Err r }
 
 abbrev pub grant_on : Board → Chip → Outcome → BoardOutcome
 grant_on b which o = grant_said b which o o.answer

@@ -1,12 +1,11 @@
 -- Demand 3 on the board. "A channel entitled at every board grant, its own controller rotating at each, with no reset, master clear or sheet
 -- reading between, sees at most seven other services first."
-use Rattle.std.specs.Prelude.{ℕ, ◌+◌, ◌/◌, ◌≤◌, ◌<◌, ◌≡◌, true, List, [], ◌∷◌, ◌++◌, length, get_or}
+use Rattle.std.specs.Prelude.{ℕ, ◌+◌, ◌/◌, ◌≤◌, ◌<◌, ◌≡◌, true, List, [], ◌∷◌, ◌++◌, length, get_or, Some, Ok}
 use Rattle.am9517.specs.Modes.{rotating}
 use Rattle.am9517.specs.Serving.{entitled}
 use Rattle.board.specs.declared.Board.{Board}
 use Rattle.board.specs.declared.Chip.{Chip}
 use Rattle.board.specs.Chips.{chip, own, channel_of}
-use Rattle.am9517.specs.declared.Answer.TheVariants.{Value}
 use Rattle.board.specs.Answers.{board_grant_of}
 use Rattle.board.specs.RoundAnswers.{board_rounded_of}
 use Rattle.demands.specs.Lists.{All, count}
@@ -63,7 +62,7 @@ BoardDemand3 =
 -- The grants of a round are grants as `grant` itself makes them: on the board before each service it would be answered so.
 abbrev pub RoundGrantsAreGrants : Type 0
 RoundGrantsAreGrants =
-    (b : Board) (m d r : List ℕ) (k : ℕ) → All (λ (g : BoardGranted). (board_grant_of g.before).answer ≡ Value g.channel) (made b (Round m d r k))
+    (b : Board) (m d r : List ℕ) (k : ℕ) → All (λ (g : BoardGranted). (board_grant_of g.before).answer ≡ Ok (Some g.channel)) (made b (Round m d r k))
 
 -- The services that a round reports are its grants.
 abbrev pub BoardReports : Type 0

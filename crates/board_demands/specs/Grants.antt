@@ -1,10 +1,9 @@
 -- The grants that operations on the board make, in their order: what demand 3 speaks of.
-use Rattle.std.specs.Prelude.{ℕ, zero, suc, not, List, [], ◌∷◌, ◌++◌, map, eqb}
+use Rattle.std.specs.Prelude.{ℕ, zero, suc, not, List, [], ◌∷◌, ◌++◌, map, eqb, Some, None, Ok, Err}
 use Rattle.words.specs.Choice.{when}
 use Rattle.words.specs.Grounds.{◌if◌, first}
 use Rattle.am9517.specs.Refusals.{refusal}
-use Rattle.am9517.specs.declared.Answer.{Answer}
-use Rattle.am9517.specs.declared.Answer.TheVariants.{Done, Value, Refused}
+use Rattle.am9517.specs.Answers.{Answer}
 use Rattle.am9517_service.specs.Round.{is_ended}
 use Rattle.board.specs.declared.Board.{Board}
 use Rattle.board.specs.Bus.{winning_channel, quiet}
@@ -23,9 +22,9 @@ granted b n = record { before = b; channel = n }
 
 -- the grant that this answer of `grant` tells of; a refusal is none
 abbrev pub told : Board → Answer → List BoardGranted
-told b Done = []
-told b (Value n) = granted b n ∷ []
-told b (Refused n) = []
+told b (Ok None) = []
+told b (Ok (Some n)) = granted b n ∷ []
+told b (Err r) = []
 
 -- the grants of a round that may begin so many more services: one before each, as board_round_of makes them
 unfoldable pub round_grants : ℕ → List ℕ → BoardCourse → List BoardGranted

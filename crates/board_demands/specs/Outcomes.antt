@@ -1,5 +1,6 @@
 -- Demand 2 for the pair, one outcome: the contract of each public function of board and of each call of c_board asks nothing and admits one
--- outcome only; in the sense of crates/demands (Outcomes), for the functions of these two crates.
+-- outcome only; in the sense of crates/demands (Outcomes), for the functions of these two crates. The number of a chip, `u8::from`, is a
+-- trait's: its ghost member says the same.
 use Rattle.demands.specs.Outcomes.{Definite, DefiniteLent}
 use Rattle.board.proofs.Board.fresh.Kinds as board-fresh-kinds
 use Rattle.board.proofs.Board.fresh.Reads as board-fresh-reads

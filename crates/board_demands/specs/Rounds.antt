@@ -1,11 +1,9 @@
 -- A round on the board is its calls, in all that it leaves and says, as a controller's own (crates/demands, Rounds).
-use Rattle.std.specs.Prelude.{ℕ, zero, suc, ◌≡◌, not, List, [], ◌∷◌, ◌++◌, eqb, length, get_or, drop}
+use Rattle.std.specs.Prelude.{ℕ, zero, suc, ◌≡◌, not, List, [], ◌∷◌, ◌++◌, eqb, length, get_or, drop, Ok}
 use Rattle.words.specs.Choice.{when}
 use Rattle.words.specs.Grounds.{◌if◌, first}
 use Rattle.am9517.specs.Refusals.{refusal}
 use Rattle.am9517_service.specs.declared.Reason.TheVariants.{Ended, Dropped, Limit}
-use Rattle.am9517_service.specs.declared.RunAnswer.TheVariants as run
-use Rattle.am9517_service.specs.declared.RoundAnswer.TheVariants.{Stopped}
 use Rattle.am9517_service.specs.Answers.{Given, given}
 use Rattle.board.specs.declared.Board.{Board}
 use Rattle.board.specs.Chips.{chip}
@@ -17,6 +15,7 @@ use Rattle.demands.specs.Lists.{count}
 use Rattle.demands.specs.Rounds.{has_ended, memory_behind, room_behind, sums, last_answer, closing, Words}
 use Rattle.board_demands.specs.Operations.{BoardOp, Write, Read, Pins, Reset, Waits, Grant, Run, Round, SheetWriting, SheetReading, next, after_all, said}
 use Rattle.board_demands.specs.Grants.{made, grants, channels}
+use Rattle.am9517_service.specs.declared.RoundEnd.TheVariants.{Stopped}
 
 -- "grant then run, limit 65,536, no EOP. The device bytes not yet used are handed on to the next run, and so is the room behind the last
 -- byte written." The calls of a round on the board that may begin so many more services.
@@ -75,7 +74,7 @@ pub record IsBoardCalls (b : Board) (m d r : List ℕ) (k : ℕ) (ops : List Boa
   pub totals : (board_rounded_of b m d r k).rounded.totals ≡ sums (runs b ops)
   -- and, unless refused, it answers by their last run, or by whether k services were begun.
   pub answers : said b (Round m d r k) ≡ 0
-      → (board_rounded_of b m d r k).rounded.answer ≡ closing (last_answer (run.Stopped Ended) (runs b ops)) (eqb (length (grants b ops)) k)
+      → (board_rounded_of b m d r k).rounded.answer ≡ closing (last_answer (Ok Ended) (runs b ops)) (eqb (length (grants b ops)) k)
 
 -- A round on the board is its calls.
 abbrev pub BoardRoundIsCalls : Type 0
@@ -83,9 +82,9 @@ BoardRoundIsCalls = (b : Board) (m d r : List ℕ) (k : ℕ) → IsBoardCalls b 
 
 -- These three reasons never come out of a round on the board; "limit" where counts fit 16 bits, the type of the fields.
 pub record BoardRoundNeverStops (b : Board) (m d r : List ℕ) (k : ℕ) : Type 0 where
-  pub dropped : ¬ ((board_rounded_of b m d r k).rounded.answer ≡ Stopped Dropped)
-  pub limit : Words b.first → Words b.second → ¬ ((board_rounded_of b m d r k).rounded.answer ≡ Stopped Limit)
-  pub ended : ¬ ((board_rounded_of b m d r k).rounded.answer ≡ Stopped Ended)
+  pub dropped : ¬ ((board_rounded_of b m d r k).rounded.answer ≡ Ok (Stopped Dropped))
+  pub limit : Words b.first → Words b.second → ¬ ((board_rounded_of b m d r k).rounded.answer ≡ Ok (Stopped Limit))
+  pub ended : ¬ ((board_rounded_of b m d r k).rounded.answer ≡ Ok (Stopped Ended))
 
 abbrev pub BoardRoundStops : Type 0
 BoardRoundStops = (b : Board) (m d r : List ℕ) (k : ℕ) → BoardRoundNeverStops b m d r k

@@ -1,9 +1,8 @@
 -- A controller alone on the board, further: the arbiter, resets, and lists of operations.
-use Rattle.std.specs.Prelude.{ℕ, ◌+◌, ◌≡◌, List, [], ◌∷◌, eqb}
+use Rattle.std.specs.Prelude.{ℕ, ◌+◌, ◌≡◌, List, [], ◌∷◌, eqb, Some, None, Ok, Err}
 use Rattle.words.specs.Choice.{when}
 use Rattle.am9517.specs.Answers.{reset_of}
-use Rattle.am9517.specs.declared.Answer.{Answer}
-use Rattle.am9517.specs.declared.Answer.TheVariants.{Done, Value, Refused}
+use Rattle.am9517.specs.Answers.{Answer}
 use Rattle.am9517_service.specs.RoundAnswers.{RoundGiven, rounded_of}
 use Rattle.board.specs.declared.Board.{Board}
 use Rattle.board.specs.declared.Chip.{Chip}
@@ -18,10 +17,10 @@ use Rattle.board_demands.specs.Alone.{Aside, register_of, levels_of, RoundOn, Al
 
 -- a reset, on the board: each chip's own, "the first controller being first after reset"; a refusal leaves the board
 abbrev pub reset_on : Board → Answer → BoardOutcome
-reset_on b Done =
-    record { board = record { first = (reset_of b.first).controller; second = (reset_of b.second).controller; granted_last = number_of Second }; answer = Done }
-reset_on b (Value n) = record { board = b; answer = Value n }
-reset_on b (Refused n) = record { board = b; answer = Refused n }
+reset_on b (Ok None) =
+    record { board = record { first = (reset_of b.first).controller; second = (reset_of b.second).controller; granted_last = number_of Second }; answer = Ok None }
+reset_on b (Ok (Some n)) = record { board = b; answer = Ok (Some n) }
+reset_on b (Err r) = record { board = b; answer = Err r }
 
 -- services begun: the sum over the channels
 abbrev pub begun : List ℕ → ℕ

@@ -1,3 +1,2 @@
--- Laws of what is shown, and of calls.
-pub mod DisplayLaws
+-- Laws of calls.
 pub mod CallLaws

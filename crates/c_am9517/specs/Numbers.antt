@@ -7,6 +7,7 @@ use Rattle.c_am9517.specs.declared.RoundTold.{RoundTold}
 use Rattle.c_am9517.specs.declared.JudgeTold.{JudgeTold}
 use Rattle.logs.specs.declared.Verdict.{Verdict}
 use Rattle.logs.specs.declared.Verdict.TheVariants.{Accepted, Wrong, Refused}
+use Rattle.am9517.specs.Refusals.{number_of}
 
 abbrev pub round_told_of : Rounded → RoundTold
 round_told_of r =
@@ -24,4 +25,4 @@ round_told_of r =
 abbrev pub judge_told_of : ℕ → Verdict → JudgeTold
 judge_told_of size Accepted = record { refusal = 0; error = pos 0; right = size }
 judge_told_of size (Wrong at error) = record { refusal = 0; error = error; right = at }
-judge_told_of size (Refused n) = record { refusal = n; error = pos 0; right = 0 }
+judge_told_of size (Refused r) = record { refusal = number_of r; error = pos 0; right = 0 }

@@ -10,74 +10,34 @@ ghost use Rattle.am9517_sheet.specs.Sheet.{sheet_write_of, sheet_read_of};
 ghost use Rattle.c_told.specs.Numbers.{told, saved, save_of};
 ghost use Rattle.c_am9517.specs.Host.{look_of, left, call_of, load_of, run_left, run_call_of, round_left, round_call_of, judge_left, judge_call_of};
 
-use crate::display::requesting_set;
 use crate::numbers::{judge_told_of, round_told_of};
 use crate::{JudgeTold, RoundTold};
-use am9517::{Answer, Controller, Outcome};
+use am9517::{Controller, Outcome};
 use am9517_sheet::Form;
-use c_told::{RunTold, Told, run_told_of, sheet_number, told_of, wide};
-
-// The next chip, and a refusal's number, 0 for none.
-#[derive(Clone, Copy)]
-pub struct Done {
-    pub controller: Controller,
-    pub refusal: u32,
-}
-
-// The next chip, and what is told.
-#[derive(Clone, Copy)]
-pub struct Answered {
-    pub controller: Controller,
-    pub said: Told,
-}
-
-#[derive(Clone, Copy)]
-pub struct RunDone {
-    pub controller: Controller,
-    pub said: RunTold,
-}
-
-#[derive(Clone, Copy)]
-pub struct RoundDone {
-    pub controller: Controller,
-    pub said: RoundTold,
-}
-
-#[derive(Clone, Copy)]
-pub struct JudgeDone {
-    pub controller: Controller,
-    pub said: JudgeTold,
-}
+use c_told::{Left, RunTold, Told, requesting_set, run_told_of, sheet_number, told_of, wide};
 
 // An arm for each answer: so the chip is copied once less than where the number comes first.
-fn done_of(outcome: Outcome) -> Done
-    ensures { result ≡ record { controller = outcome.controller; refusal = refusal_number outcome.answer } }
+fn done_of(outcome: Outcome) -> Left<Controller, u32>
+    ensures { result ≡ record { state = outcome.controller; said = refusal_number outcome.answer } }
 {
-    let controller = outcome.controller;
+    let state = outcome.controller;
     let answer = outcome.answer;
     match answer {
-        Answer::Done => Done {
-            controller,
-            refusal: 0,
-        },
-        Answer::Value(v) => Done {
-            controller,
-            refusal: 0,
-        },
-        Answer::Refused(n) => Done {
-            controller,
-            refusal: wide(n),
+        Ok(_) => Left { state, said: 0 },
+        Err(refusal) => Left {
+            state,
+            said: wide(refusal.number()),
         },
     }
 }
 
-fn answered_of(outcome: Outcome) -> Answered
-    ensures { left result.controller result.said ≡ call_of outcome }
+fn answered_of(outcome: Outcome) -> Left<Controller, Told>
+    ensures { left result.state result.said ≡ call_of outcome }
 {
-    let controller = outcome.controller;
+    let state = outcome.controller;
     let answer = outcome.answer;
     let said = told_of(answer);
-    Answered { controller, said }
+    Left { state, said }
 }
 
 // What is shown of a chip, unless a field is out of its range.
@@ -99,38 +59,38 @@ pub(crate) fn check(c: Controller) -> u32
     shown(c, 0).refusal
 }
 
-pub(crate) fn write(c: Controller, register: u32, byte: u8) -> Done
-    ensures { left result.controller (told result.refusal 0) ≡ call_of (write_of c register byte) }
+pub(crate) fn write(c: Controller, register: u32, byte: u8) -> Left<Controller, u32>
+    ensures { left result.state (told result.said 0) ≡ call_of (write_of c register byte) }
 {
     done_of(c.write(register, byte))
 }
 
-pub(crate) fn read(c: Controller, register: u32) -> Answered
-    ensures { left result.controller result.said ≡ call_of (read_of c register) }
+pub(crate) fn read(c: Controller, register: u32) -> Left<Controller, Told>
+    ensures { left result.state result.said ≡ call_of (read_of c register) }
 {
     answered_of(c.read(register))
 }
 
-pub(crate) fn pins(c: Controller, levels: u32) -> Done
-    ensures { left result.controller (told result.refusal 0) ≡ call_of (pins_of c levels) }
+pub(crate) fn pins(c: Controller, levels: u32) -> Left<Controller, u32>
+    ensures { left result.state (told result.said 0) ≡ call_of (pins_of c levels) }
 {
     done_of(c.pins(levels))
 }
 
-pub(crate) fn reset(c: Controller) -> Done
-    ensures { left result.controller (told result.refusal 0) ≡ call_of (reset_of c) }
+pub(crate) fn reset(c: Controller) -> Left<Controller, u32>
+    ensures { left result.state (told result.said 0) ≡ call_of (reset_of c) }
 {
     done_of(c.reset())
 }
 
-pub(crate) fn waits(c: Controller, states: u8) -> Done
-    ensures { left result.controller (told result.refusal 0) ≡ call_of (waits_of c states) }
+pub(crate) fn waits(c: Controller, states: u8) -> Left<Controller, u32>
+    ensures { left result.state (told result.said 0) ≡ call_of (waits_of c states) }
 {
     done_of(c.waits(states))
 }
 
-pub(crate) fn grant(c: Controller) -> Answered
-    ensures { left result.controller result.said ≡ call_of (grant_of c) }
+pub(crate) fn grant(c: Controller) -> Left<Controller, Told>
+    ensures { left result.state result.said ≡ call_of (grant_of c) }
 {
     answered_of(c.grant())
 }
@@ -155,15 +115,15 @@ pub(crate) fn run(
     room: &mut [u8],
     limit: u64,
     eop_at: u64,
-) -> RunDone
-    ensures { run_left result.controller result.said memory.new room.new ≡ run_call_of (ran_of c memory.old device.now room.old limit eop_at) }
+) -> Left<Controller, RunTold>
+    ensures { run_left result.state result.said memory.new room.new ≡ run_call_of (ran_of c memory.old device.now room.old limit eop_at) }
 {
     let ran = am9517_service::run(c, memory, device, room, limit, eop_at);
-    let controller = ran.controller;
+    let state = ran.controller;
     let answer = ran.answer;
     let counts = ran.counts;
     let said = run_told_of(answer, counts);
-    RunDone { controller, said }
+    Left { state, said }
 }
 
 pub(crate) fn round(
@@ -172,23 +132,23 @@ pub(crate) fn round(
     device: &[u8],
     room: &mut [u8],
     k: u32,
-) -> RoundDone
-    ensures { round_left result.controller result.said memory.new room.new ≡ round_call_of (rounded_of c memory.old device.now room.old k) }
+) -> Left<Controller, RoundTold>
+    ensures { round_left result.state result.said memory.new room.new ≡ round_call_of (rounded_of c memory.old device.now room.old k) }
 {
     let rounded = am9517_service::round(c, memory, device, room, k);
-    let controller = rounded.controller;
+    let state = rounded.controller;
     let said = round_told_of(rounded);
-    RoundDone { controller, said }
+    Left { state, said }
 }
 
-pub(crate) fn judge(c: Controller, memory: &mut [u8], log: &[u8]) -> JudgeDone
-    ensures { judge_left result.controller result.said memory.new ≡ judge_call_of (length log.now) (judged_of c memory.old log.now) }
+pub(crate) fn judge(c: Controller, memory: &mut [u8], log: &[u8]) -> Left<Controller, JudgeTold>
+    ensures { judge_left result.state result.said memory.new ≡ judge_call_of (length log.now) (judged_of c memory.old log.now) }
 {
     let judged = logs::judge(c, memory, log);
-    let controller = judged.controller;
+    let state = judged.controller;
     let verdict = judged.verdict;
     let said = judge_told_of(verdict, log.len());
-    JudgeDone { controller, said }
+    Left { state, said }
 }
 
 // Sheets: of form 1, and of form 2.
@@ -204,26 +164,26 @@ pub(crate) fn save2(c: Controller, sheet: &mut [u8]) -> u32
     sheet_number(am9517_sheet::write(Form::Two, c, sheet))
 }
 
-fn load_in(form: Form, c: Controller, sheet: &[u8]) -> Done
-    ensures { left result.controller (told result.refusal 0) ≡ load_of (sheet_read_of form c sheet.now) }
+fn load_in(form: Form, c: Controller, sheet: &[u8]) -> Left<Controller, u32>
+    ensures { left result.state (told result.said 0) ≡ load_of (sheet_read_of form c sheet.now) }
 {
     let held = am9517_sheet::read(form, c, sheet);
-    let controller = held.controller;
+    let state = held.controller;
     let answer = held.answer;
-    Done {
-        controller,
-        refusal: sheet_number(answer),
+    Left {
+        state,
+        said: sheet_number(answer),
     }
 }
 
-pub(crate) fn load(c: Controller, sheet: &[u8]) -> Done
-    ensures { left result.controller (told result.refusal 0) ≡ load_of (sheet_read_of One c sheet.now) }
+pub(crate) fn load(c: Controller, sheet: &[u8]) -> Left<Controller, u32>
+    ensures { left result.state (told result.said 0) ≡ load_of (sheet_read_of One c sheet.now) }
 {
     load_in(Form::One, c, sheet)
 }
 
-pub(crate) fn load2(c: Controller, sheet: &[u8]) -> Done
-    ensures { left result.controller (told result.refusal 0) ≡ load_of (sheet_read_of Two c sheet.now) }
+pub(crate) fn load2(c: Controller, sheet: &[u8]) -> Left<Controller, u32>
+    ensures { left result.state (told result.said 0) ≡ load_of (sheet_read_of Two c sheet.now) }
 {
     load_in(Form::Two, c, sheet)
 }

@@ -20,7 +20,6 @@ use am9517_sheet::Form;
 use c_told::{RunTold, Told, edition_byte, sheet_number};
 
 mod calls;
-mod display;
 mod numbers;
 
 // How a round went.
@@ -74,8 +73,8 @@ pub fn am9517_write(chip: &mut Controller, register: u32, byte: u8) -> u32
     ensures { left chip.new (told result 0) ≡ call_of (write_of chip.old register byte) }
 {
     let done = calls::write(*chip, register, byte);
-    *chip = done.controller;
-    done.refusal
+    *chip = done.state;
+    done.said
 }
 
 // A register is read.
@@ -83,7 +82,7 @@ pub fn am9517_read(chip: &mut Controller, register: u32) -> Told
     ensures { left chip.new result ≡ call_of (read_of chip.old register) }
 {
     let done = calls::read(*chip, register);
-    *chip = done.controller;
+    *chip = done.state;
     done.said
 }
 
@@ -92,16 +91,16 @@ pub fn am9517_pins(chip: &mut Controller, levels: u32) -> u32
     ensures { left chip.new (told result 0) ≡ call_of (pins_of chip.old levels) }
 {
     let done = calls::pins(*chip, levels);
-    *chip = done.controller;
-    done.refusal
+    *chip = done.state;
+    done.said
 }
 
 pub fn am9517_reset(chip: &mut Controller) -> u32
     ensures { left chip.new (told result 0) ≡ call_of (reset_of chip.old) }
 {
     let done = calls::reset(*chip);
-    *chip = done.controller;
-    done.refusal
+    *chip = done.state;
+    done.said
 }
 
 // The memory cards hold each transfer for so many states more.
@@ -109,8 +108,8 @@ pub fn am9517_waits(chip: &mut Controller, states: u8) -> u32
     ensures { left chip.new (told result 0) ≡ call_of (waits_of chip.old states) }
 {
     let done = calls::waits(*chip, states);
-    *chip = done.controller;
-    done.refusal
+    *chip = done.state;
+    done.said
 }
 
 // The first entitled channel's service begins.
@@ -118,7 +117,7 @@ pub fn am9517_grant(chip: &mut Controller) -> Told
     ensures { left chip.new result ≡ call_of (grant_of chip.old) }
 {
     let done = calls::grant(*chip);
-    *chip = done.controller;
+    *chip = done.state;
     done.said
 }
 
@@ -148,7 +147,7 @@ pub fn am9517_run(
     ensures { run_left chip.new result memory.new room.new ≡ run_call_of (ran_of chip.old memory.old device.now room.old limit eop_at) }
 {
     let done = calls::run(*chip, memory, device, room, limit, eop_at);
-    *chip = done.controller;
+    *chip = done.state;
     done.said
 }
 
@@ -157,7 +156,7 @@ pub fn am9517_judge(chip: &mut Controller, memory: &mut [u8], log: &[u8]) -> Jud
     ensures { judge_left chip.new result memory.new ≡ judge_call_of (length log.now) (judged_of chip.old memory.old log.now) }
 {
     let done = calls::judge(*chip, memory, log);
-    *chip = done.controller;
+    *chip = done.state;
     done.said
 }
 
@@ -172,7 +171,7 @@ pub fn am9517_round(
     ensures { round_left chip.new result memory.new room.new ≡ round_call_of (rounded_of chip.old memory.old device.now room.old k) }
 {
     let done = calls::round(*chip, memory, device, room, k);
-    *chip = done.controller;
+    *chip = done.state;
     done.said
 }
 
@@ -188,8 +187,8 @@ pub fn am9517_load(chip: &mut Controller, sheet: &[u8]) -> u32
     ensures { left chip.new (told result 0) ≡ load_of (sheet_read_of One chip.old sheet.now) }
 {
     let done = calls::load(*chip, sheet);
-    *chip = done.controller;
-    done.refusal
+    *chip = done.state;
+    done.said
 }
 
 // The same in form 2, which holds the edition and the wait states.
@@ -203,8 +202,8 @@ pub fn am9517_load2(chip: &mut Controller, sheet: &[u8]) -> u32
     ensures { left chip.new (told result 0) ≡ load_of (sheet_read_of Two chip.old sheet.now) }
 {
     let done = calls::load2(*chip, sheet);
-    *chip = done.controller;
-    done.refusal
+    *chip = done.state;
+    done.said
 }
 
 // The sheet of form 1 at the end of `source` is written in form 2 at the end of `target`.

@@ -39,8 +39,8 @@ pub(crate) fn judge_told_of(verdict: Verdict, size: usize) -> JudgeTold
             error,
             right: at,
         },
-        Verdict::Refused(n) => JudgeTold {
-            refusal: wide(n),
+        Verdict::Refused(refusal) => JudgeTold {
+            refusal: wide(refusal.number()),
             error: 0,
             right: 0,
         },

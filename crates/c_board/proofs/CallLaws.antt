@@ -5,19 +5,19 @@ use mathlib.Core.Bool.{Bool, true, false, ◌&&◌}
 use Rattle.words.specs.Choice.{◌and◌}
 use Rattle.words.proofs.ChoiceLaws.{when_hit, when_miss}
 use Rattle.am9517.specs.Answers.{refusal_number}
-use Rattle.am9517.specs.declared.Answer.TheVariants.{Done}
 use Rattle.board.specs.declared.Board.{Board}
 use Rattle.board.specs.Ranges.{pair_valid}
 use Rattle.board.specs.Answers.{board_outcome, board_waits_of}
 use Rattle.c_told.specs.Numbers.{told}
 use Rattle.c_told.proofs.NumberLaws.{no_value}
 use Rattle.c_board.specs.Host.{left, call_of, names_none, chip_of, waits_call_of}
+use Rattle.std.proofs.Common.{None}
 
 pub number_only : (n : ℕ) (was next : Board)
-    → left (board_outcome n was next Done).board (told (refusal_number (board_outcome n was next Done).answer) 0) ≡ call_of (board_outcome n was next Done)
+    → left (board_outcome n was next None).board (told (refusal_number (board_outcome n was next None).answer) 0) ≡ call_of (board_outcome n was next None)
 unfolding board_outcome
 number_only n was next =
-    ap (λ (v : ℕ). left (board_outcome n was next Done).board (told (refusal_number (board_outcome n was next Done).answer) v)) (sym (no_value n))
+    ap (λ (v : ℕ). left (board_outcome n was next None).board (told (refusal_number (board_outcome n was next None).answer) v)) (sym (no_value n))
 
 -- the code's test, where `good` is what it found of the pair and `none` of the number
 test_is : (b : Board) (which : ℕ) (good none hit : Bool) → good ≡ pair_valid b → none ≡ names_none which → good && none ≡ hit

@@ -1,5 +1,5 @@
 -- A read, field by field: what it is refused by, what it tells, and that it changes no more than the TC bits and the flip-flop of one chip.
-use Prim.Native.Nat.{ℕ, ◌*◌, ◌/◌, ◌<◌, ◌≤◌}
+use Prim.Native.Nat.{ℕ, ◌<◌, ◌≤◌}
 use mathlib.Core.Path.{◌≡◌, refl, sym, ap, ◌∙◌}
 use mathlib.Core.Bool.{Bool, true, false, not, ◌&&◌}
 use mathlib.Core.List.{List}
@@ -9,12 +9,14 @@ use borrow.Author.Tests.{eqb-true, ne_eqb, lt-ltb, le-ltb, ltb-false}
 use Rattle.words.specs.Choice.{when, ◌and◌}
 use Rattle.words.specs.Grounds.{Ground, first}
 use Rattle.words.specs.Bits.{bit}
-use Rattle.am9517.specs.Fields.{put, Mask, Command}
 use Rattle.am9517.specs.Ranges.{valid}
 use Rattle.am9517.specs.Registers.{after_read, value}
-use Rattle.am9517.specs.Refusals.{refusal, busy, unreadable}
-use Rattle.am9517.specs.Serving.{active, request_counts, requests, entitled, set_of}
+use Rattle.am9517.specs.Refusals.{number_of, numbered, refused, refusal, busy, unreadable}
 use Rattle.am9517.specs.declared.Controller.{Controller}
+use Rattle.am9517.specs.declared.refusals.Refusal.{Refusal}
+use Rattle.am9517.specs.declared.refusals.Refusal.TheVariants.{Register}
+use Rattle.board.proofs.RefusalLaws as refusals
+use Rattle.std.proofs.Common.{Some, None}
 use Rattle.board.specs.declared.Board.{Board}
 use Rattle.board.specs.declared.Chip.{Chip}
 use Rattle.board.specs.declared.Chip.TheVariants.{First, Second}
@@ -27,25 +29,6 @@ use Rattle.c_board.specs.Host.{left, call_of, looked}
 use Rattle.words.proofs.ChoiceLaws.{never}
 use Rattle.words.proofs.GroundLaws.{passed}
 use Rattle.board.proofs.OutcomeLaws.{pair, each, each_idle}
-
--- Who requests is who is entitled with nothing masked and nothing disabled.
-abbrev unhindered : Controller → Controller
-unhindered c = put (put c Mask 0) Command (64 * (c.command / 64))
-
-and_true : (a : Bool) → a && true ≡ a
-and_true true = refl
-and_true false = refl
-
-unhindered_entitled : (c : Controller) (n : ℕ) → bit 0 n ≡ 0 → entitled (unhindered c) n ≡ requests c n
-unfolding entitled requests active request_counts
-unhindered_entitled c n free =
-    let on : bit (64 * (c.command / 64)) 2 ≡ 0 = omega arith in
-    let level : bit (64 * (c.command / 64)) 6 ≡ bit c.command 6 = omega arith in
-    simp (on, level, free, and_true)
-
-pub requesting : (c : Controller) → set_of (entitled (unhindered c)) ≡ set_of (requests c)
-unfolding set_of
-requesting c = simp (unhindered_entitled c 0 refl, unhindered_entitled c 1 refl, unhindered_entitled c 2 refl, unhindered_entitled c 3 refl)
 
 -- the last register of those below 8
 past_three : (r : ℕ) → (r ≡ 0 → ⊥) → (r ≡ 1 → ⊥) → (r ≡ 2 → ⊥) → (r ≡ 3 → ⊥) → 4 ≤ r
@@ -138,10 +121,17 @@ register_asked b r n v w ev ew e s h t en =
     let low : own r ≤ 15 = omega arith in
     en ∙ sym (own_asked b r good (le-ltb 31 r h) t (each b (pair b good) (addressed r)) (le-ltb 15 (own r) low) (each_idle b t (addressed r)))
 
+pub register_refused : (t : Bool) → when t (Some Register) None ≡ refused (when t 4 0)
+unfolding refused numbered when
+register_refused true = refl
+register_refused false = refl
+
 -- What is told and left: refused, of the first, of the second.
-pub read_refused : (b : Board) (r n m : ℕ) → n ≡ refusal (board_read_grounds b r) → (n ≡ 0 → ⊥) → m ≡ n → left b (told m 0) ≡ call_of (board_read_of b r)
+pub read_refused : (b : Board) (r m : ℕ) (x : Refusal) → Some x ≡ refused (refusal (board_read_grounds b r)) → m ≡ number_of x → left b (told m 0) ≡ call_of (board_read_of b r)
 unfolding board_outcome when
-read_refused b r n m e z em = rw (em, ← e) (simp (ne_eqb n 0 z))
+read_refused b r m x e em =
+    let t = refusals.taken (refusal (board_read_grounds b r)) x (sym e) in
+    rw (em, t.1) (simp (ne_eqb (refusal (board_read_grounds b r)) 0 t.0))
 
 chip_looked : (b : Board) (w : Chip) (r : ℕ) (low eight : Bool) → ltb r 8 ≡ low → eqb r 8 ≡ eight
     → looked b (with_chip b w (after_read (chip b w) r)).first.tc (with_chip b w (after_read (chip b w) r)).first.flip_flop (with_chip b w (after_read (chip b w) r)).second.tc (with_chip b w (after_read (chip b w) r)).second.flip_flop

@@ -11,21 +11,7 @@ ghost use Rattle.c_board.specs.Host.{look_of, entitled_of, left, call_of, names_
 use crate::RoundTold;
 use am9517_sheet::Form;
 use board::{Board, BoardOutcome, BoardRounded, Chip};
-use c_told::{RunTold, Told, round_pair, run_told_of, sheet_number, told_of, wide};
-
-// The next board, and a refusal's number, 0 for none.
-#[derive(Clone, Copy)]
-pub struct Done {
-    pub board: Board,
-    pub refusal: u32,
-}
-
-// The next board, and what is told.
-#[derive(Clone, Copy)]
-pub struct Answered {
-    pub board: Board,
-    pub said: Told,
-}
+use c_told::{Left, RunTold, Told, round_pair, run_told_of, sheet_number, told_of, wide};
 
 // The TC bits and flip-flops of both after a read, and what is told.
 #[derive(Clone, Copy)]
@@ -37,37 +23,25 @@ pub struct Looked {
     pub said: Told,
 }
 
-#[derive(Clone, Copy)]
-pub struct RunDone {
-    pub board: Board,
-    pub said: RunTold,
-}
-
-#[derive(Clone, Copy)]
-pub struct RoundDone {
-    pub board: Board,
-    pub said: RoundTold,
-}
-
-fn done_of(outcome: BoardOutcome) -> Done
-    ensures { result ≡ record { board = outcome.board; refusal = refusal_number outcome.answer } }
+fn done_of(outcome: BoardOutcome) -> Left<Board, u32>
+    ensures { result ≡ record { state = outcome.board; said = refusal_number outcome.answer } }
 {
-    let board = outcome.board;
+    let state = outcome.board;
     let answer = outcome.answer;
     let said = told_of(answer);
-    Done {
-        board,
-        refusal: said.refusal,
+    Left {
+        state,
+        said: said.refusal,
     }
 }
 
-fn answered_of(outcome: BoardOutcome) -> Answered
-    ensures { left result.board result.said ≡ call_of outcome }
+fn answered_of(outcome: BoardOutcome) -> Left<Board, Told>
+    ensures { left result.state result.said ≡ call_of outcome }
 {
-    let board = outcome.board;
+    let state = outcome.board;
     let answer = outcome.answer;
     let said = told_of(answer);
-    Answered { board, said }
+    Left { state, said }
 }
 
 fn round_told_of(rounded: BoardRounded) -> RoundTold
@@ -123,44 +97,41 @@ pub(crate) fn check(b: Board) -> u32
     shown(b, 0).refusal
 }
 
-pub(crate) fn write(b: Board, register: u32, byte: u8) -> Done
-    ensures { left result.board (told result.refusal 0) ≡ call_of (board_write_of b register byte) }
+pub(crate) fn write(b: Board, register: u32, byte: u8) -> Left<Board, u32>
+    ensures { left result.state (told result.said 0) ≡ call_of (board_write_of b register byte) }
 {
     done_of(b.write(register, byte))
 }
 
-pub(crate) fn read(b: Board, register: u32) -> Answered
-    ensures { left result.board result.said ≡ call_of (board_read_of b register) }
+pub(crate) fn read(b: Board, register: u32) -> Left<Board, Told>
+    ensures { left result.state result.said ≡ call_of (board_read_of b register) }
 {
     answered_of(b.read(register))
 }
 
-pub(crate) fn pins(b: Board, levels: u32) -> Done
-    ensures { left result.board (told result.refusal 0) ≡ call_of (board_pins_of b levels) }
+pub(crate) fn pins(b: Board, levels: u32) -> Left<Board, u32>
+    ensures { left result.state (told result.said 0) ≡ call_of (board_pins_of b levels) }
 {
     done_of(b.pins(levels))
 }
 
-pub(crate) fn reset(b: Board) -> Done
-    ensures { left result.board (told result.refusal 0) ≡ call_of (board_reset_of b) }
+pub(crate) fn reset(b: Board) -> Left<Board, u32>
+    ensures { left result.state (told result.said 0) ≡ call_of (board_reset_of b) }
 {
     done_of(b.reset())
 }
 
-pub(crate) fn waits(b: Board, which: u32, states: u8) -> Done
-    ensures { left result.board (told result.refusal 0) ≡ waits_call_of b which states }
+pub(crate) fn waits(b: Board, which: u32, states: u8) -> Left<Board, u32>
+    ensures { left result.state (told result.said 0) ≡ waits_call_of b which states }
 {
     if b.valid() & names_none(which) {
-        return Done {
-            board: b,
-            refusal: 2,
-        };
+        return Left { state: b, said: 2 };
     }
     done_of(b.waits(chip_of(which), states))
 }
 
-pub(crate) fn grant(b: Board) -> Answered
-    ensures { left result.board result.said ≡ call_of (board_grant_of b) }
+pub(crate) fn grant(b: Board) -> Left<Board, Told>
+    ensures { left result.state result.said ≡ call_of (board_grant_of b) }
 {
     answered_of(b.grant())
 }
@@ -180,15 +151,15 @@ pub(crate) fn run(
     room: &mut [u8],
     limit: u64,
     eop_at: u64,
-) -> RunDone
-    ensures { run_left result.board result.said memory.new room.new ≡ run_call_of (board_ran_of b memory.old device.now room.old limit eop_at) }
+) -> Left<Board, RunTold>
+    ensures { run_left result.state result.said memory.new room.new ≡ run_call_of (board_ran_of b memory.old device.now room.old limit eop_at) }
 {
     let ran = board::run(b, memory, device, room, limit, eop_at);
-    let next = ran.board;
+    let state = ran.board;
     let answer = ran.answer;
     let counts = ran.counts;
     let said = run_told_of(answer, counts);
-    RunDone { board: next, said }
+    Left { state, said }
 }
 
 pub(crate) fn round(
@@ -197,13 +168,13 @@ pub(crate) fn round(
     device: &[u8],
     room: &mut [u8],
     k: u32,
-) -> RoundDone
-    ensures { round_left result.board result.said memory.new room.new ≡ round_call_of (board_rounded_of b memory.old device.now room.old k) }
+) -> Left<Board, RoundTold>
+    ensures { round_left result.state result.said memory.new room.new ≡ round_call_of (board_rounded_of b memory.old device.now room.old k) }
 {
     let rounded = board::round(b, memory, device, room, k);
-    let next = rounded.board;
+    let state = rounded.board;
     let said = round_told_of(rounded);
-    RoundDone { board: next, said }
+    Left { state, said }
 }
 
 // Sheets: of form 1, and of form 2.
@@ -228,32 +199,29 @@ pub(crate) fn save2(b: Board, which: u32, sheet: &mut [u8]) -> u32
     save_in(Form::Two, b, which, sheet)
 }
 
-fn load_in(form: Form, b: Board, which: u32, sheet: &[u8]) -> Done
-    ensures { left result.board (told result.refusal 0) ≡ load_call_of form b which sheet.now }
+fn load_in(form: Form, b: Board, which: u32, sheet: &[u8]) -> Left<Board, u32>
+    ensures { left result.state (told result.said 0) ≡ load_call_of form b which sheet.now }
 {
     if names_none(which) {
-        return Done {
-            board: b,
-            refusal: 2,
-        };
+        return Left { state: b, said: 2 };
     }
     let held = board::read_sheet(b, chip_of(which), form, sheet);
-    let next = held.board;
+    let state = held.board;
     let answer = held.answer;
-    Done {
-        board: next,
-        refusal: sheet_number(answer),
+    Left {
+        state,
+        said: sheet_number(answer),
     }
 }
 
-pub(crate) fn load(b: Board, which: u32, sheet: &[u8]) -> Done
-    ensures { left result.board (told result.refusal 0) ≡ load_call_of One b which sheet.now }
+pub(crate) fn load(b: Board, which: u32, sheet: &[u8]) -> Left<Board, u32>
+    ensures { left result.state (told result.said 0) ≡ load_call_of One b which sheet.now }
 {
     load_in(Form::One, b, which, sheet)
 }
 
-pub(crate) fn load2(b: Board, which: u32, sheet: &[u8]) -> Done
-    ensures { left result.board (told result.refusal 0) ≡ load_call_of Two b which sheet.now }
+pub(crate) fn load2(b: Board, which: u32, sheet: &[u8]) -> Left<Board, u32>
+    ensures { left result.state (told result.said 0) ≡ load_call_of Two b which sheet.now }
 {
     load_in(Form::Two, b, which, sheet)
 }

@@ -62,8 +62,8 @@ pub fn am9517_board_write(board: &mut Board, register: u32, byte: u8) -> u32
     ensures { left board.new (told result 0) ≡ call_of (board_write_of board.old register byte) }
 {
     let done = calls::write(*board, register, byte);
-    *board = done.board;
-    done.refusal
+    *board = done.state;
+    done.said
 }
 
 // A register of it is read.
@@ -83,8 +83,8 @@ pub fn am9517_board_pins(board: &mut Board, levels: u32) -> u32
     ensures { left board.new (told result 0) ≡ call_of (board_pins_of board.old levels) }
 {
     let done = calls::pins(*board, levels);
-    *board = done.board;
-    done.refusal
+    *board = done.state;
+    done.said
 }
 
 // Both controllers, and the arbiter.
@@ -92,8 +92,8 @@ pub fn am9517_board_reset(board: &mut Board) -> u32
     ensures { left board.new (told result 0) ≡ call_of (board_reset_of board.old) }
 {
     let done = calls::reset(*board);
-    *board = done.board;
-    done.refusal
+    *board = done.state;
+    done.said
 }
 
 // The memory cards hold each transfer of this chip for so many states more.
@@ -101,8 +101,8 @@ pub fn am9517_board_waits(board: &mut Board, which: u32, states: u8) -> u32
     ensures { left board.new (told result 0) ≡ waits_call_of board.old which states }
 {
     let done = calls::waits(*board, which, states);
-    *board = done.board;
-    done.refusal
+    *board = done.state;
+    done.said
 }
 
 // The service of the controller that gets the bus begins; the channel is one of eight.
@@ -110,7 +110,7 @@ pub fn am9517_board_grant(board: &mut Board) -> Told
     ensures { left board.new result ≡ call_of (board_grant_of board.old) }
 {
     let done = calls::grant(*board);
-    *board = done.board;
+    *board = done.state;
     done.said
 }
 
@@ -133,7 +133,7 @@ pub fn am9517_board_run(
     ensures { run_left board.new result memory.new room.new ≡ run_call_of (board_ran_of board.old memory.old device.now room.old limit eop_at) }
 {
     let done = calls::run(*board, memory, device, room, limit, eop_at);
-    *board = done.board;
+    *board = done.state;
     done.said
 }
 
@@ -148,7 +148,7 @@ pub fn am9517_board_round(
     ensures { round_left board.new result memory.new room.new ≡ round_call_of (board_rounded_of board.old memory.old device.now room.old k) }
 {
     let done = calls::round(*board, memory, device, room, k);
-    *board = done.board;
+    *board = done.state;
     done.said
 }
 
@@ -164,8 +164,8 @@ pub fn am9517_board_load(board: &mut Board, which: u32, sheet: &[u8]) -> u32
     ensures { left board.new (told result 0) ≡ load_call_of One board.old which sheet.now }
 {
     let done = calls::load(*board, which, sheet);
-    *board = done.board;
-    done.refusal
+    *board = done.state;
+    done.said
 }
 
 // The same in form 2, which holds the edition and the wait states.
@@ -179,6 +179,6 @@ pub fn am9517_board_load2(board: &mut Board, which: u32, sheet: &[u8]) -> u32
     ensures { left board.new (told result 0) ≡ load_call_of Two board.old which sheet.now }
 {
     let done = calls::load2(*board, which, sheet);
-    *board = done.board;
-    done.refusal
+    *board = done.state;
+    done.said
 }

@@ -2,29 +2,18 @@
 ghost use Rattle.std.specs.Prelude.{◌≡◌, ◌<◌, ◌/◌, ◌%◌, eqb};
 ghost use Rattle.words.specs.Choice.{when};
 ghost use Rattle.am9517.specs.Fields.{channel};
-ghost use Rattle.am9517.specs.Refusals.{refusal};
+ghost use Rattle.am9517.specs.Refusals.{refused, refusal};
 ghost use Rattle.am9517.specs.Registers.{value, after_read};
-ghost use Rattle.am9517.specs.Serving.{requests, set_of};
 ghost use Rattle.board.specs.Refusals.{board_read_grounds};
 ghost use Rattle.board.specs.Answers.{board_read_of};
 ghost use Rattle.c_board.specs.Host.{left, call_of, looked};
 
 use crate::calls::Looked;
-use am9517::Controller;
+use am9517::{Controller, Refusal};
 use board::Board;
-use c_told::{Told, wide};
+use c_told::{Told, requesting_set, wide};
 use words::bytes::byte_of;
 use words::choice::when;
-
-// The requesting channels, as four bits: those that are entitled once nothing is masked and the chip isn't disabled.
-fn requesting_set(c: Controller) -> u8
-    ensures { result ≡ set_of (requests c) }
-{
-    let mut open = c;
-    open.mask = 0;
-    open.command = 64 * (c.command / 64);
-    open.entitled_set()
-}
 
 // The word that a register below 8 shows a byte of.
 fn word(c: Controller, reg: u32) -> u16
@@ -73,42 +62,41 @@ fn tc_after(c: Controller, reg: u32) -> u8
     when(reg == 8, 0, c.tc)
 }
 
-// The number of the first ground that holds, 0 where none does.
-fn read_refusal(b: Board, register: u32) -> u8
-    ensures { result ≡ refusal (board_read_grounds b register) }
+// The first ground that holds, nothing where none does.
+fn read_refusal(b: Board, register: u32) -> Option<Refusal>
+    ensures { result ≡ refused (refusal (board_read_grounds b register)) }
 {
     let reg = register % 16;
-    let no = when((9 <= reg) & (reg != 0xD), 4, 0);
+    let unreadable = (9 <= reg) & (reg != 0xD);
     // In line: with a call of the board's own test a read took 1.3 times as long.
     let each = b.first.valid() & (b.second.valid() & (b.granted_last <= 1));
     if !each {
-        return 1;
+        return Some(Refusal::Range);
     }
     if (b.first.in_service != 0) & (b.second.in_service != 0) {
-        return 1;
+        return Some(Refusal::Range);
     }
     if 31 < register {
-        return 2;
+        return Some(Refusal::TooLarge);
     }
     if (b.first.in_service != 0) | (b.second.in_service != 0) {
-        return 3;
+        return Some(Refusal::InService);
     }
-    no
+    when(unreadable, Some(Refusal::Register), None)
 }
 
 // All that a read changes, of both chips.
 pub(crate) fn read(b: Board, register: u32) -> Looked
     ensures { left (looked b result.first_tc result.first_flip_flop result.second_tc result.second_flip_flop) result.said ≡ call_of (board_read_of b register) }
 {
-    let no = read_refusal(b, register);
-    if no != 0 {
+    if let Some(refusal) = read_refusal(b, register) {
         return Looked {
             first_tc: b.first.tc,
             first_flip_flop: b.first.flip_flop,
             second_tc: b.second.tc,
             second_flip_flop: b.second.flip_flop,
             said: Told {
-                refusal: wide(no),
+                refusal: wide(refusal.number()),
                 value: 0,
             },
         };

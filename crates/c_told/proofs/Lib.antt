@@ -1,2 +1,3 @@
--- What an answer has no value for.
+-- What an answer has no value for, and who requests.
 pub mod NumberLaws
+pub mod RequestingLaws

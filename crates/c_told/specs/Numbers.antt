@@ -1,20 +1,18 @@
 -- What stands for an edition and for an answer in C. A refusal's number is document 01's, 0 for none.
-use Rattle.std.specs.Prelude.{ℕ, List, ltb}
+use Rattle.std.specs.Prelude.{ℕ, List, ltb, Some, None, Ok, Err}
 use Rattle.words.specs.Choice.{when}
 use Rattle.am9517.specs.Answers.{refusal_number}
-use Rattle.am9517.specs.declared.Answer.{Answer}
-use Rattle.am9517.specs.declared.Answer.TheVariants as answer
+use Rattle.am9517.specs.Answers.{Answer}
 use Rattle.am9517_service.specs.Answers.{run_refusal_number}
 use Rattle.am9517_service.specs.declared.Counts.{Counts}
 use Rattle.am9517_service.specs.declared.Reason.{Reason}
 use Rattle.am9517_service.specs.declared.Reason.TheVariants.{Ended, Dropped, Cascade, Limit, Short}
-use Rattle.am9517_service.specs.declared.RunAnswer.{RunAnswer}
-use Rattle.am9517_service.specs.declared.RunAnswer.TheVariants as run
-use Rattle.am9517_service.specs.declared.RoundAnswer.{RoundAnswer}
-use Rattle.am9517_service.specs.declared.RoundAnswer.TheVariants as round
+use Rattle.am9517_service.specs.Answers.{RunAnswer}
+use Rattle.am9517_service.specs.Round.{RoundAnswer}
 use Rattle.am9517_sheet.specs.Sheet.{Stored, sheet_refusal_number}
 use Rattle.c_told.specs.declared.Told.{Told}
 use Rattle.c_told.specs.declared.RunTold.{RunTold}
+use Rattle.am9517_service.specs.declared.RoundEnd.TheVariants.{Done, Quiet, Stopped}
 
 -- major * 10000 + minor * 100 + patch
 abbrev pub version : ℕ
@@ -26,9 +24,9 @@ edition_byte edition = when (ltb 255 edition) 255 edition
 
 -- the byte read or the channel granted; 0 where there is none
 abbrev pub value_of : Answer → ℕ
-value_of answer.Done = 0
-value_of (answer.Value v) = v
-value_of (answer.Refused n) = 0
+value_of (Ok None) = 0
+value_of (Ok (Some v)) = v
+value_of (Err r) = 0
 
 -- the end reasons of a run
 abbrev pub reason_of : Reason → ℕ
@@ -40,15 +38,15 @@ reason_of Short = 5
 
 -- 0 beside a refusal
 abbrev pub run_reason_of : RunAnswer → ℕ
-run_reason_of (run.Stopped e) = reason_of e
-run_reason_of (run.Refused n) = 0
+run_reason_of (Ok e) = reason_of e
+run_reason_of (Err r) = 0
 
 -- a round has two more
 abbrev pub round_reason_of : RoundAnswer → ℕ
-round_reason_of round.Done = 6
-round_reason_of round.Quiet = 7
-round_reason_of (round.Stopped e) = reason_of e
-round_reason_of (round.Refused n) = 0
+round_reason_of (Ok Done) = 6
+round_reason_of (Ok Quiet) = 7
+round_reason_of (Ok (Stopped e)) = reason_of e
+round_reason_of (Err r) = 0
 
 abbrev pub told : ℕ → ℕ → Told
 told n v = record { refusal = n; value = v }

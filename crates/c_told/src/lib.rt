@@ -1,14 +1,15 @@
-// What the calls for C say in numbers, whichever library they are of: editions, answers, refusals and end reasons.
+// What the calls for C say in numbers, whichever library they are of: editions, answers, refusals, end reasons and who requests.
 #![tactic(auto)]
 
-ghost use Rattle.std.specs.Prelude.{◌≡◌, ◌≤◌};
+ghost use Rattle.std.specs.Prelude.{◌≡◌, ◌≤◌, Ok};
+ghost use Rattle.am9517.specs.Serving.{requests, set_of};
 ghost use Rattle.am9517_service.specs.Answers.{run_refusal_number};
 ghost use Rattle.am9517_service.specs.RoundAnswers.{round_refusal_number};
 ghost use Rattle.am9517_sheet.specs.Sheet.{sheet_refusal_number};
 ghost use Rattle.c_told.specs.Numbers.{version, edition_byte, reason_of, run_reason_of, round_reason_of, told_of, run_told_of};
 
-use am9517::Answer;
-use am9517_service::{Counts, Reason, RoundAnswer, RunAnswer};
+use am9517::{Answer, Controller};
+use am9517_service::{Counts, Reason, RoundAnswer, RoundEnd, RunAnswer};
 use am9517_sheet::SheetAnswer;
 
 // A refusal's number, and the byte read, the channel granted or the set shown.
@@ -31,11 +32,29 @@ pub struct RunTold {
     pub states: u64,
 }
 
+// What a call leaves: the next state of what it was lent, and what it says.
+#[derive(Clone, Copy)]
+pub struct Left<S, T> {
+    pub state: S,
+    pub said: T,
+}
+
 // A refusal's number and a reason's.
 #[derive(Clone, Copy)]
 pub struct Pair {
     pub refusal: u32,
     pub reason: u32,
+}
+
+// The requesting channels, as four bits: those that are entitled once nothing is masked and the chip isn't
+// disabled. Of the command bit 6, DREQ active low, stays.
+pub fn requesting_set(c: Controller) -> u8
+    ensures { result ≡ set_of (requests c) }
+{
+    let mut open = c;
+    open.mask = 0;
+    open.command = 64 * (c.command / 64);
+    open.entitled_set()
 }
 
 // The version of the libraries, one number for all.
@@ -66,16 +85,16 @@ pub fn told_of(answer: Answer) -> Told
     ensures { result ≡ told_of answer }
 {
     match answer {
-        Answer::Done => Told {
+        Ok(None) => Told {
             refusal: 0,
             value: 0,
         },
-        Answer::Value(v) => Told {
+        Ok(Some(v)) => Told {
             refusal: 0,
             value: wide(v),
         },
-        Answer::Refused(n) => Told {
-            refusal: wide(n),
+        Err(refusal) => Told {
+            refusal: wide(refusal.number()),
             value: 0,
         },
     }
@@ -86,8 +105,8 @@ pub fn sheet_number(answer: SheetAnswer) -> u32
     ensures { result ≡ sheet_refusal_number answer }
 {
     match answer {
-        SheetAnswer::Done => 0,
-        SheetAnswer::Refused(n) => wide(n),
+        Ok(()) => 0,
+        Err(refusal) => wide(refusal.number()),
     }
 }
 
@@ -103,16 +122,27 @@ fn reason_of(why: Reason) -> u32
     }
 }
 
+// How a round ended: with the reason of its last service, or with one of its own.
+fn end_of(end: RoundEnd) -> u32
+    ensures { result ≡ round_reason_of (Ok end) }
+{
+    match end {
+        RoundEnd::Done => 6,
+        RoundEnd::Quiet => 7,
+        RoundEnd::Stopped(why) => reason_of(why),
+    }
+}
+
 fn run_pair(answer: RunAnswer) -> Pair
     ensures { result ≡ record { refusal = run_refusal_number answer; reason = run_reason_of answer } }
 {
     match answer {
-        RunAnswer::Stopped(why) => Pair {
+        Ok(why) => Pair {
             refusal: 0,
             reason: reason_of(why),
         },
-        RunAnswer::Refused(n) => Pair {
-            refusal: wide(n),
+        Err(refusal) => Pair {
+            refusal: wide(refusal.number()),
             reason: 0,
         },
     }
@@ -122,20 +152,12 @@ pub fn round_pair(answer: RoundAnswer) -> Pair
     ensures { result ≡ record { refusal = round_refusal_number answer; reason = round_reason_of answer } }
 {
     match answer {
-        RoundAnswer::Done => Pair {
+        Ok(end) => Pair {
             refusal: 0,
-            reason: 6,
+            reason: end_of(end),
         },
-        RoundAnswer::Quiet => Pair {
-            refusal: 0,
-            reason: 7,
-        },
-        RoundAnswer::Stopped(why) => Pair {
-            refusal: 0,
-            reason: reason_of(why),
-        },
-        RoundAnswer::Refused(n) => Pair {
-            refusal: wide(n),
+        Err(refusal) => Pair {
+            refusal: wide(refusal.number()),
             reason: 0,
         },
     }

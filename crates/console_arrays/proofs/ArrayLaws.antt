@@ -1,18 +1,17 @@
 -- Laws of the memory, the queue and the room.
-use Prim.Native.Nat.{ℕ, ◌+◌, ◌-◌, ◌≤◌, ◌<◌}
+use Prim.Native.Nat.{ℕ, ◌+◌, ◌-◌, ◌≤◌}
 use mathlib.Core.Path.{◌≡◌, refl, sym, ap, ◌∙◌}
 use mathlib.Core.Bool.{Bool, true, false}
 use mathlib.Core.List.{List, ◌++◌}
 use native.Mathlib.Omega.{arith}
-use native.Mathlib.Numerals.{add-one}
 use lib.Dec.{leb}
-use lib.ListN.{length, get_or, take, drop, set, length-append, length-drop, take-append-drop}
-use lib.Seq.{length-take-le, take_at, drop-append-le, get_or-append-add, get_or-drop, paste, paste-suc, take-paste}
+use lib.ListN.{length, take, drop, length-append, length-drop, take-append-drop}
+use lib.Seq.{length-take-le, take_at, drop-append-le, paste, take-paste}
 use borrow.Author.Tests.{leb-true, leb-false, le-leb, lt-leb}
 use Rattle.words.specs.Choice.{when}
 use Rattle.console_text.specs.Text.{Page, page, put}
 use Rattle.console_chip.specs.Answers.{ok_text, error_text}
-use Rattle.console_arrays.specs.Arrays.{shown, showing, held, appended}
+use Rattle.console_arrays.specs.Arrays.{shown, showing, held, appended, Grown}
 use Rattle.console_text.proofs.TextLaws.{put_room}
 
 -- Two ways to test that n more have room behind a.
@@ -23,24 +22,7 @@ sums_so a n size h false e = let l = leb-false n (size - a) e in sym (lt-leb (a 
 pub sums : (a n size : ℕ) → a ≤ size → leb n (size - a) ≡ leb (a + n) size
 sums a n size h = sums_so a n size h _ refl
 
--- A turn of the loop that moves bytes to the front, and its end.
-module _ (q : List ℕ) (from i : ℕ) where
-  pub front_turn : (now : List ℕ) → from + i < length q → now ≡ paste q 0 (drop from q) i
-      → set now i (get_or now (from + i) 0) ≡ paste q 0 (drop from q) (i + 1)
-  front_turn now h e =
-      let s = drop from q in
-      let size : i < length s = omega (arith, length-drop from q) in
-      let place : from + i ≡ length (take i s) + from = omega (arith, length-take-le i s (omega arith)) in
-      let sum : 0 + i + from ≡ from + i = omega arith in
-      let seen : get_or (take i s ++ drop (0 + i) q) (from + i) 0 ≡ get_or s i 0 =
-      ap (λ (k : ℕ). get_or (take i s ++ drop (0 + i) q) k 0) place
-      ∙ get_or-append-add (take i s) (drop (0 + i) q) from 0
-      ∙ get_or-drop (0 + i) q from 0
-      ∙ ap (λ (k : ℕ). get_or q k 0) sum
-      ∙ sym (get_or-drop from q i 0) in
-      let none : 0 + i ≡ i = omega arith in
-      rw (e, seen, add-one i) (ap (λ (k : ℕ). set (paste q 0 s i) k (get_or s i 0)) (sym none) ∙ paste-suc q 0 s i 0 (omega arith) size)
-
+-- bytes moved to the front
 pub front_end : (q now : List ℕ) (from n : ℕ) → from + n ≤ length q → now ≡ paste q 0 (drop from q) n → take n now ≡ take n (drop from q)
 front_end q now from n h e =
     let none : 0 + n ≡ n = omega arith in
@@ -92,12 +74,11 @@ module _ (q bs : List ℕ) (from to n : ℕ) (p out : Page) (inside : to ≤ len
   pub queue_full : leb (to - from + n) 70000 ≡ false → out ≡ put p error_text → shown (held q from to) out ≡ showing p (appended (held q from to) bs)
   queue_full t o = append_not (held q from to) bs p out (sum_test ∙ t) o
 
-  pub queue_grown : (moved ys : List ℕ) (start r : ℕ) → leb (to - from + n) 70000 ≡ true
-      → held moved start (start + (to - from)) ≡ held q from to → start + (to - from) + n ≤ length moved
-      → page ys r ≡ put (page moved (start + (to - from))) bs → out ≡ put p ok_text
-      → shown (held ys start (start + (to - from) + n)) out ≡ showing p (appended (held q from to) bs)
-  queue_grown moved ys start r t kept room e o =
-      let end = start + (to - from) in
-      let grown : held ys start (end + length bs) ≡ held moved start end ++ bs = held_put moved bs ys start end r (omega arith) (omega arith) e in
-      append_done (held q from to) bs p out (held ys start (end + n)) (sum_test ∙ t)
-      (ap (λ (k : ℕ). held ys start (end + k)) (sym size) ∙ grown ∙ ap (λ (l : List ℕ). l ++ bs) kept) o
+  pub queue_grown : (moved ys : List ℕ) (place start end r : ℕ) → leb (to - from + n) 70000 ≡ true → Grown place start end n moved (held q from to)
+      → page ys r ≡ put (page moved place) bs → out ≡ put p ok_text → shown (held ys start end) out ≡ showing p (appended (held q from to) bs)
+  queue_grown moved ys place start end r t g e o =
+      let grown : held ys start (place + length bs) ≡ held moved start place ++ bs =
+      held_put moved bs ys start place r g.behind (omega (arith, g.longer, g.inside)) e in
+      let long : end ≡ place + length bs = omega (arith, g.longer) in
+      append_done (held q from to) bs p out (held ys start end) (sum_test ∙ t)
+      (ap (held ys start) long ∙ grown ∙ ap (λ (l : List ℕ). l ++ bs) g.kept) o

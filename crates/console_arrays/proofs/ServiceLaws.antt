@@ -4,15 +4,10 @@ use mathlib.Core.Path.{◌≡◌, refl, sym, ap, ◌∙◌}
 use native.Mathlib.Omega.{arith}
 use mathlib.Core.List.{List, [], ◌∷◌, ◌++◌}
 use lib.ListN.{length, get_or, drop}
-use Rattle.am9517.specs.declared.Controller.{Controller}
-use Rattle.am9517_service.specs.Answers.{Given, given}
-use Rattle.am9517_service.specs.declared.Ran.{Ran}
-use Rattle.am9517_service.specs.RoundAnswers.{RoundGiven, round_given}
-use Rattle.am9517_service.specs.declared.Rounded.{Rounded}
 use Rattle.console_text.specs.Text.{codes, Page, put}
 use Rattle.console_text.specs.Numbers.{decimal_text}
 use Rattle.console_text.proofs.TextLaws.{put_none, put_append, drop_next, drop_end}
-use Rattle.console_arrays.specs.Services.{behind_commas, services_text, Seen, serving, run_text, run_service, round_text, round_service}
+use Rattle.console_arrays.specs.Services.{behind_commas, services_text}
 
 -- numbers behind commas: a turn of the loop, its end, and the list with the number before them
 module _ (p r : Page) (s : List ℕ) (i : ℕ) where
@@ -39,14 +34,3 @@ pub services_some : (s : List ℕ) → (length s ≡ 0 → ⊥) → codes " serv
 unfolding services_text
 services_some [] h = absurd (h refl)
 services_some (n ∷ ns) h = refl
-
-pub ran_so : (r : Ran) (m room : List ℕ) (p q : Page) (g : Given) → given r m room ≡ g → q ≡ put p (run_text r.answer r.counts)
-    → ◌≡◌ {A = Seen Controller} (record { next = r.controller; used = r.counts.used; written = r.counts.written; memory = m; room = room; page = q }) (serving p (run_service g))
-unfolding run_service
-ran_so r m room p q g e t = rw (← e, t)
-
-pub rounded_so : (r : Rounded) (m room : List ℕ) (p q : Page) (g : RoundGiven) → round_given r m room ≡ g
-    → q ≡ put p (round_text r.answer r.services r.totals)
-    → ◌≡◌ {A = Seen Controller} (record { next = r.controller; used = r.totals.used; written = r.totals.written; memory = m; room = room; page = q }) (serving p (round_service g))
-unfolding round_service
-rounded_so r m room p q g e t = rw (← e, t)

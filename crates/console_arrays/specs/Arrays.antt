@@ -5,7 +5,6 @@ use Rattle.console_text.specs.Text.{Page, page, put}
 use Rattle.console_text.specs.Numbers.{number_of}
 use Rattle.console_text.specs.Hex.{is_bytes, bytes_in}
 use Rattle.console_chip.specs.Answers.{ok_text, error_text, bytes_answer, numbered, word_most}
-use Rattle.console_arrays.specs.declared.arrays.Part.{Part}
 
 -- "N bytes are lent from now on (0 to 65,537)"
 abbrev pub lent_of : ℕ → List ℕ → ℕ
@@ -85,15 +84,27 @@ abbrev pub position_of : ℕ → List ℕ → List ℕ → ℕ
 position_of written count byte =
     numbered (number_of 70000 count) (λ (n : ℕ). numbered (number_of 255 byte) (λ (b : ℕ). 0) written) written
 
--- A part of an array after a command that changes it: the queue from one place up to another, or the room with its write
--- position; it holds what the command says, and the page has the answer.
-pub record Queued (r : Part) (array out : List ℕ) (c : Shown) : Type 0 where
-  pub holds : shown (held array r.from r.to) (page out r.at) ≡ c
-  pub ordered : r.from ≤ r.to
-  pub inside : r.to ≤ length array
+-- What ends at this place lies in its array, which has place for 70,000 bytes.
+pub record LiesIn (end : ℕ) (array : List ℕ) : Type 0 where
+  pub inside : end ≤ length array
+  pub deep : 70000 ≤ length array
 
-pub record Roomed (r : Part) (array out : List ℕ) (c : Shown) (position : ℕ) : Type 0 where
-  pub holds : shown (take r.to array) (page out r.at) ≡ c
-  pub behind : r.from ≡ position
-  pub ordered : r.from ≤ r.to
-  pub inside : r.to ≤ length array
+-- The queue with a place for n more bytes: before it, it holds what it held.
+pub record Grown (place from to n : ℕ) (array bytes : List ℕ) : Type 0 where
+  pub kept : held array from place ≡ bytes
+  pub behind : from ≤ place
+  pub longer : to ≡ place + n
+  pub inside : to ≤ length array
+
+-- An array after a command that changes it: the queue from one place up to another, or the room with its write position; it holds
+-- what the command says, and the page has the answer.
+pub record Queued (from to : ℕ) (array : List ℕ) (p : Page) (c : Shown) : Type 0 where
+  pub holds : shown (held array from to) p ≡ c
+  pub ordered : from ≤ to
+  pub inside : to ≤ length array
+
+pub record Roomed (written size : ℕ) (array : List ℕ) (p : Page) (c : Shown) (position : ℕ) : Type 0 where
+  pub holds : shown (take size array) p ≡ c
+  pub behind : written ≡ position
+  pub ordered : written ≤ size
+  pub inside : size ≤ length array

@@ -15,7 +15,7 @@ use Rattle.console_arrays.specs.Services.{Service, unserved}
 unfoldable pub verdict_text : ℕ → Verdict → List ℕ
 verdict_text records Accepted = codes "accepted records=" ++ decimal_text records
 verdict_text records (Wrong at error) = codes "wrong at=" ++ decimal_text at ++ codes " error=" ++ signed_text error
-verdict_text records (Refused n) = refused_text n
+verdict_text records (Refused r) = refused_text r
 
 -- "State and lent memory are as the good records made them"; no device bytes are used or written
 unfoldable pub judge_service : List ℕ → ℕ → JudgeGiven → Service Controller

@@ -1,14 +1,12 @@
 -- The commands run and round: their answers, and what they leave.
-use Rattle.std.specs.Prelude.{ℕ, List, [], ◌∷◌, ◌++◌}
+use Rattle.std.specs.Prelude.{ℕ, List, [], ◌∷◌, ◌++◌, Ok, Err}
 use Rattle.am9517.specs.declared.Controller.{Controller}
-use Rattle.am9517_service.specs.Answers.{word_of, Given, ran_of}
+use Rattle.am9517_service.specs.Answers.{word_of, RunAnswer, Given, ran_of}
 use Rattle.am9517_service.specs.declared.Counts.{Counts}
 use Rattle.am9517_service.specs.declared.Reason.{Reason}
-use Rattle.am9517_service.specs.declared.RunAnswer.{RunAnswer}
-use Rattle.am9517_service.specs.declared.RunAnswer.TheVariants.{Stopped as RunStopped, Refused as RunRefused}
 use Rattle.am9517_service.specs.RoundAnswers.{round_word_of, RoundGiven, rounded_of}
-use Rattle.am9517_service.specs.declared.RoundAnswer.{RoundAnswer}
-use Rattle.am9517_service.specs.declared.RoundAnswer.TheVariants.{Done, Quiet, Stopped, Refused}
+use Rattle.am9517_service.specs.declared.RoundEnd.{RoundEnd}
+use Rattle.am9517_service.specs.Round.{RoundAnswer}
 use Rattle.console_text.specs.Text.{codes, Page, page, put}
 use Rattle.console_text.specs.Numbers.{number_of, decimal_text}
 use Rattle.console_chip.specs.Answers.{error_text, refused_text, numbered, word_most}
@@ -31,8 +29,8 @@ counts_text n =
     ++ decimal_text n.states
 
 unfoldable pub run_text : RunAnswer → Counts → List ℕ
-run_text (RunStopped why) counts = reason_text why ++ counts_text counts
-run_text (RunRefused n) counts = refused_text n
+run_text (Ok why) counts = reason_text why ++ counts_text counts
+run_text (Err r) counts = refused_text r
 
 -- " services=A,B,C,D": the services begun, a number for each channel
 unfoldable pub behind_commas : List ℕ → List ℕ
@@ -46,11 +44,13 @@ services_text (n ∷ ns) = codes " services=" ++ decimal_text n ++ behind_commas
 abbrev pub round_counts : List ℕ → Counts → List ℕ
 round_counts services totals = services_text services ++ counts_text totals
 
+-- a round has two words more
+unfoldable pub end_text : RoundEnd → List ℕ
+end_text end = codes (round_word_of (Ok end))
+
 unfoldable pub round_text : RoundAnswer → List ℕ → Counts → List ℕ
-round_text Done services totals = codes (round_word_of Done) ++ round_counts services totals
-round_text Quiet services totals = codes (round_word_of Quiet) ++ round_counts services totals
-round_text (Stopped why) services totals = reason_text why ++ round_counts services totals
-round_text (Refused n) services totals = refused_text n
+round_text (Ok end) services totals = end_text end ++ round_counts services totals
+round_text (Err r) services totals = refused_text r
 
 -- What a service leaves: what it is of, a controller or a board, as it is next; the device bytes used and written, the lent memory
 -- and room, and its answer.
@@ -71,9 +71,9 @@ pub record Seen (A : Type 0) : Type 0 where
   pub room : List ℕ
   pub page : Page
 
-abbrev pub served : Served → List ℕ → List ℕ → List ℕ → Seen Controller
+abbrev pub served : {A : Type 0} → Served A → List ℕ → List ℕ → List ℕ → Seen A
 served r m room out =
-    record { next = r.controller; used = r.used; written = r.written; memory = m; room = room; page = page out r.at }
+    record { next = r.next; used = r.used; written = r.written; memory = m; room = room; page = page out r.at }
 
 abbrev pub serving : {A : Type 0} → Page → Service A → Seen A
 serving p s =

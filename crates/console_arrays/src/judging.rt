@@ -26,7 +26,7 @@ fn verdict_said(verdict: Verdict, records: usize, out: &mut [u8], at: usize) -> 
             let next = text(out, next, b" error=");
             signed(out, next, error)
         }
-        Verdict::Refused(n) => refused(out, at, n),
+        Verdict::Refused(refusal) => refused(out, at, refusal),
     }
 }
 
@@ -38,7 +38,7 @@ pub fn judge(
     spare: &mut [u8],
     out: &mut [u8],
     at: usize,
-) -> Served
+) -> Served<Controller>
     ensures { (room : List ℕ) → served result memory.new room out.new ≡ serving (page out.old at) (judge_within (length spare.old) c memory.old room digits.now) }
 {
     let n = digits.len() / 2;
@@ -52,9 +52,8 @@ pub fn judge(
     let found = logs::judge(c, memory, &spare[0..n]);
     let verdict = found.verdict;
     let next = verdict_said(verdict, n / 8, out, at);
-    let controller = found.controller;
     Served {
-        controller,
+        next: found.controller,
         used: 0,
         written: 0,
         at: next,

@@ -3,4 +3,6 @@
 
 pub mod arrays;
 pub mod judging;
+pub mod queue;
+pub mod room;
 pub mod runs;

@@ -2,18 +2,18 @@
 ghost use Rattle.std.specs.Prelude.{◌≡◌, ℕ, List, ◌++◌};
 ghost use Rattle.console_text.specs.Text.{codes, page, put};
 ghost use Rattle.console_text.specs.Numbers.{decimal_text};
-ghost use Rattle.console_arrays.specs.Services.{reason_text, counts_text, behind_commas, services_text, run_text, round_text, served, serving, unserved as Services·unserved, run_reply, round_reply};
+ghost use Rattle.console_arrays.specs.Services.{reason_text, counts_text, behind_commas, services_text, run_text, end_text, round_text, served, serving, unserved as Services·unserved, counted_service, run_reply, round_reply};
 
 use am9517::Controller;
-use am9517_service::{Counts, Reason, RoundAnswer, RunAnswer};
+use am9517_service::{Counts, Reason, RoundAnswer, RoundEnd, RunAnswer};
 use console_chip::answers::{WORD, error, refused};
-use console_text::numbers::{Number, number_of};
+use console_text::numbers::number_of;
 use console_text::page::{decimal, text};
 
-// The next controller, the device bytes used and written, and the place behind the answer.
+// What a service leaves: a controller or a board as it is next, the device bytes used and written, and the place behind the answer.
 #[derive(Clone, Copy)]
-pub struct Served {
-    pub controller: Controller,
+pub struct Served<T> {
+    pub next: T,
     pub used: usize,
     pub written: usize,
     pub at: usize,
@@ -44,27 +44,19 @@ fn counts_said(n: Counts, out: &mut [u8], at: usize) -> usize
     decimal(out, next, n.states)
 }
 
-fn wide(n: u32) -> u64
-    ensures { result ≡ n }
-{
-    n as u64
-}
-
 fn behind_comma(n: u32, out: &mut [u8], at: usize) -> usize
     ensures { page out.new result ≡ put (page out.old at) (codes "," ++ decimal_text n) }
 {
     let next = text(out, at, b",");
-    decimal(out, next, wide(n))
+    decimal(out, next, n as u64)
 }
 
 fn behind_commas(numbers: &[u32], out: &mut [u8], at: usize) -> usize
     ensures { page out.new result ≡ put (page out.old at) (behind_commas numbers.now) }
 {
     let mut next = at;
-    let mut i = 0;
-    while i < numbers.len() {
-        next = behind_comma(numbers[i], out, next);
-        i += 1;
+    for &n in numbers {
+        next = behind_comma(n, out, next);
     }
     next
 }
@@ -76,20 +68,20 @@ fn services_said(services: &[u32], out: &mut [u8], at: usize) -> usize
     if services.len() == 0 {
         return next;
     }
-    let next = decimal(out, next, wide(services[0]));
+    let next = decimal(out, next, services[0] as u64);
     behind_commas(&services[1..], out, next)
 }
 
-// What a run did, of a controller or of a board.
-pub fn run_said(answer: RunAnswer, counts: Counts, out: &mut [u8], at: usize) -> usize
+// What a run did.
+fn run_said(answer: RunAnswer, counts: Counts, out: &mut [u8], at: usize) -> usize
     ensures { page out.new result ≡ put (page out.old at) (run_text answer counts) }
 {
     match answer {
-        RunAnswer::Stopped(why) => {
+        Ok(why) => {
             let next = reason_said(why, out, at);
             counts_said(counts, out, next)
         }
-        RunAnswer::Refused(n) => refused(out, at, n),
+        Err(refusal) => refused(out, at, refusal),
     }
 }
 
@@ -101,8 +93,18 @@ fn round_counts(services: &[u32], totals: Counts, out: &mut [u8], at: usize) -> 
     counts_said(totals, out, next)
 }
 
-// What a round did, of a controller or of a board: as many services as it has channels.
-pub fn round_said(
+fn end_said(end: RoundEnd, out: &mut [u8], at: usize) -> usize
+    ensures { page out.new result ≡ put (page out.old at) (end_text end) }
+{
+    match end {
+        RoundEnd::Done => text(out, at, b"done"),
+        RoundEnd::Quiet => text(out, at, b"quiet"),
+        RoundEnd::Stopped(why) => reason_said(why, out, at),
+    }
+}
+
+// What a round did: as many services as there are channels.
+fn round_said(
     answer: RoundAnswer,
     services: &[u32],
     totals: Counts,
@@ -112,31 +114,60 @@ pub fn round_said(
     ensures { page out.new result ≡ put (page out.old at) (round_text answer services.now totals) }
 {
     match answer {
-        RoundAnswer::Done => {
-            let next = text(out, at, b"done");
+        Ok(end) => {
+            let next = end_said(end, out, at);
             round_counts(services, totals, out, next)
         }
-        RoundAnswer::Quiet => {
-            let next = text(out, at, b"quiet");
-            round_counts(services, totals, out, next)
-        }
-        RoundAnswer::Stopped(why) => {
-            let next = reason_said(why, out, at);
-            round_counts(services, totals, out, next)
-        }
-        RoundAnswer::Refused(n) => refused(out, at, n),
+        Err(refusal) => refused(out, at, refusal),
     }
 }
 
-pub(crate) fn unserved(c: Controller, out: &mut [u8], at: usize) -> Served
-    ensures { (m room : List ℕ) → served result m room out.new ≡ serving (page out.old at) (Services·unserved c m room) }
+// Nothing was served, and nothing changed.
+pub fn unserved<T>(next: T, out: &mut [u8], at: usize) -> Served<T>
+    ensures { (m room : List ℕ) → served result m room out.new ≡ serving (page out.old at) (Services·unserved next m room) }
 {
-    let next = error(out, at);
     Served {
-        controller: c,
+        next,
         used: 0,
         written: 0,
-        at: next,
+        at: error(out, at),
+    }
+}
+
+// A run's answer is told.
+pub fn run_served<T>(
+    next: T,
+    answer: RunAnswer,
+    counts: Counts,
+    out: &mut [u8],
+    at: usize,
+) -> Served<T>
+    ensures { (m room : List ℕ) → served result m room out.new ≡ serving (page out.old at) (counted_service next counts m room (run_text answer counts)) }
+{
+    Served {
+        next,
+        used: counts.used,
+        written: counts.written,
+        at: run_said(answer, counts, out, at),
+    }
+}
+
+// A round's answer is told.
+pub fn round_served<T>(
+    next: T,
+    answer: RoundAnswer,
+    services: &[u32],
+    totals: Counts,
+    out: &mut [u8],
+    at: usize,
+) -> Served<T>
+    ensures { (m room : List ℕ) → served result m room out.new ≡ serving (page out.old at) (counted_service next totals m room (round_text answer services.now totals)) }
+{
+    Served {
+        next,
+        used: totals.used,
+        written: totals.written,
+        at: round_said(answer, services, totals, out, at),
     }
 }
 
@@ -149,30 +180,17 @@ pub fn run(
     eop: &[u8],
     out: &mut [u8],
     at: usize,
-) -> Served
+) -> Served<Controller>
     ensures { served result memory.new room.new out.new ≡ serving (page out.old at) (run_reply c memory.old device.now room.old limit.now eop.now) }
 {
-    let most = number_of(limit, WORD);
-    let meets = number_of(eop, WORD);
-    match most {
-        Number::Value(l) => match meets {
-            Number::Value(e) => {
-                let ran = am9517_service::run(c, memory, device, room, l as u64, e as u64);
-                let answer = ran.answer;
-                let counts = ran.counts;
-                let next = run_said(answer, counts, out, at);
-                let controller = ran.controller;
-                Served {
-                    controller,
-                    used: counts.used,
-                    written: counts.written,
-                    at: next,
-                }
-            }
-            Number::Bad => unserved(c, out, at),
-        },
-        Number::Bad => unserved(c, out, at),
-    }
+    let Some(l) = number_of(limit, WORD) else {
+        return unserved(c, out, at);
+    };
+    let Some(e) = number_of(eop, WORD) else {
+        return unserved(c, out, at);
+    };
+    let ran = am9517_service::run(c, memory, device, room, l as u64, e as u64);
+    run_served(ran.controller, ran.answer, ran.counts, out, at)
 }
 
 pub fn go_round(
@@ -183,25 +201,19 @@ pub fn go_round(
     count: &[u8],
     out: &mut [u8],
     at: usize,
-) -> Served
+) -> Served<Controller>
     ensures { served result memory.new room.new out.new ≡ serving (page out.old at) (round_reply c memory.old device.now room.old count.now) }
 {
-    let services = number_of(count, WORD);
-    match services {
-        Number::Value(k) => {
-            let done = am9517_service::round(c, memory, device, room, k);
-            let answer = done.answer;
-            let begun = done.services;
-            let totals = done.totals;
-            let next = round_said(answer, &begun, totals, out, at);
-            let controller = done.controller;
-            Served {
-                controller,
-                used: totals.used,
-                written: totals.written,
-                at: next,
-            }
-        }
-        Number::Bad => unserved(c, out, at),
-    }
+    let Some(k) = number_of(count, WORD) else {
+        return unserved(c, out, at);
+    };
+    let done = am9517_service::round(c, memory, device, room, k);
+    round_served(
+        done.controller,
+        done.answer,
+        &done.services,
+        done.totals,
+        out,
+        at,
+    )
 }

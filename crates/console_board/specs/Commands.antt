@@ -1,5 +1,5 @@
 -- What each command on the board answers and leaves.
-use Rattle.std.specs.Prelude.{ℕ, true, false, List}
+use Rattle.std.specs.Prelude.{ℕ, List}
 use Rattle.board.specs.declared.Board.{Board}
 use Rattle.board.specs.Chips.{fresh_board}
 use Rattle.board.specs.Answers.{board_reset_of, board_grant_of}
@@ -7,6 +7,7 @@ use Rattle.console_text.specs.declared.forms.BoardCommand.{BoardCommand}
 use Rattle.console_text.specs.declared.forms.BoardCommand.TheVariants.{State, SetState, Fresh, FreshOf, Write, Read, Pins, Reset, Waits, Grant, Sheet, Load}
 use Rattle.console_text.specs.declared.forms.BoardServiceCommand.{BoardServiceCommand}
 use Rattle.console_text.specs.declared.forms.BoardServiceCommand.TheVariants.{Run, Round}
+use Rattle.console_chip.specs.declared.answers.ValueKind.TheVariants.{Byte, Channel}
 use Rattle.console_chip.specs.Answers.{ok_text, Reply, reply}
 use Rattle.console_arrays.specs.Services.{Service}
 use Rattle.console_board.specs.Answers.{board_outcome_reply}
@@ -23,9 +24,9 @@ board_reply FreshOf b one two three = board_fresh_reply b one two
 board_reply Write b one two three = board_write_reply b one two
 board_reply Read b one two three = board_read_reply b one
 board_reply Pins b one two three = board_pins_reply b one
-board_reply Reset b one two three = board_outcome_reply false (board_reset_of b)
+board_reply Reset b one two three = board_outcome_reply Byte (board_reset_of b)
 board_reply Waits b one two three = board_waits_reply b one two
-board_reply Grant b one two three = board_outcome_reply true (board_grant_of b)
+board_reply Grant b one two three = board_outcome_reply Channel (board_grant_of b)
 board_reply Sheet b one two three = board_sheet_reply b one two three
 board_reply Load b one two three = board_load_reply b one two three
 

@@ -1,5 +1,6 @@
 -- What each command on the board's state, registers, lines and grants answers.
-use Rattle.std.specs.Prelude.{ℕ, ◌+◌, ◌*◌, false, List, [], ◌∷◌, ◌++◌, eqb, get_or, take, drop}
+use Rattle.std.specs.Prelude.{ℕ, ◌+◌, ◌*◌, List, [], ◌∷◌, ◌++◌, eqb, get_or, take, drop, Option}
+use Rattle.std.specs.Option.{option_map}
 use Rattle.words.specs.Choice.{when}
 use Rattle.am9517_sheet.specs.declared.forms.Form.TheVariants.{Two}
 use Rattle.am9517_sheet.specs.Form.{body_size}
@@ -12,6 +13,7 @@ use Rattle.board.specs.Answers.{board_write_of, board_read_of, board_pins_of, bo
 use Rattle.console_text.specs.Text.{codes}
 use Rattle.console_text.specs.Numbers.{number_of}
 use Rattle.console_text.specs.Hex.{hex_text, bytes_in}
+use Rattle.console_chip.specs.declared.answers.ValueKind.TheVariants.{Byte}
 use Rattle.console_chip.specs.Answers.{Reply, reply, error_reply, ok_text, numbered, word_most}
 use Rattle.console_chip.specs.Control.{says_bytes}
 use Rattle.console_board.specs.Answers.{board_outcome_reply}
@@ -47,22 +49,26 @@ board_fresh_reply b first second =
 abbrev pub board_write_reply : Board → List ℕ → List ℕ → Reply Board
 board_write_reply b reg byte =
     numbered (number_of word_most reg)
-    (λ (r : ℕ). numbered (number_of 255 byte) (λ (x : ℕ). board_outcome_reply false (board_write_of b r x)) (error_reply b))
+    (λ (r : ℕ). numbered (number_of 255 byte) (λ (x : ℕ). board_outcome_reply Byte (board_write_of b r x)) (error_reply b))
     (error_reply b)
 
 abbrev pub board_read_reply : Board → List ℕ → Reply Board
-board_read_reply b reg = numbered (number_of word_most reg) (λ (r : ℕ). board_outcome_reply false (board_read_of b r)) (error_reply b)
+board_read_reply b reg = numbered (number_of word_most reg) (λ (r : ℕ). board_outcome_reply Byte (board_read_of b r)) (error_reply b)
 
 abbrev pub board_pins_reply : Board → List ℕ → Reply Board
-board_pins_reply b levels = numbered (number_of word_most levels) (λ (p : ℕ). board_outcome_reply false (board_pins_of b p)) (error_reply b)
+board_pins_reply b levels = numbered (number_of word_most levels) (λ (p : ℕ). board_outcome_reply Byte (board_pins_of b p)) (error_reply b)
 
 -- 0 is the first, 1 the second
 unfoldable pub chip_numbered : ℕ → Chip
 chip_numbered n = when (eqb n 0) First Second
 
+-- the chip that a word names
+abbrev pub chip_in : List ℕ → Option Chip
+chip_in word = option_map chip_numbered (number_of 1 word)
+
 -- "CHIP over 1 or N over 255 is `error`"
 abbrev pub board_waits_reply : Board → List ℕ → List ℕ → Reply Board
 board_waits_reply b which states =
-    numbered (number_of 1 which)
-    (λ (k : ℕ). numbered (number_of 255 states) (λ (n : ℕ). board_outcome_reply false (board_waits_of b (chip_numbered k) n)) (error_reply b))
+    numbered (chip_in which)
+    (λ (c : Chip). numbered (number_of 255 states) (λ (n : ℕ). board_outcome_reply Byte (board_waits_of b c n)) (error_reply b))
     (error_reply b)

@@ -3,15 +3,9 @@ use Rattle.std.specs.Prelude.{ℕ, List}
 use Rattle.board.specs.declared.Board.{Board}
 use Rattle.board.specs.Runs.{BoardGiven, board_ran_of}
 use Rattle.board.specs.RoundAnswers.{BoardRoundGiven, board_rounded_of}
-use Rattle.console_text.specs.Text.{page}
 use Rattle.console_text.specs.Numbers.{number_of}
 use Rattle.console_chip.specs.Answers.{numbered, word_most}
-use Rattle.console_arrays.specs.Services.{Service, Seen, counted_service, unserved, run_text, round_text}
-use Rattle.console_board.specs.declared.runs.BoardServed.{BoardServed}
-
-abbrev pub board_served : BoardServed → List ℕ → List ℕ → List ℕ → Seen Board
-board_served r m room out =
-    record { next = r.board; used = r.used; written = r.written; memory = m; room = room; page = page out r.at }
+use Rattle.console_arrays.specs.Services.{Service, counted_service, unserved, run_text, round_text}
 
 -- "as for the controller"
 unfoldable pub board_run_service : BoardGiven → Service Board

@@ -1,21 +1,21 @@
 // Which function a command on the board is.
 ghost use Rattle.std.specs.Prelude.{◌≤◌, ◌/◌, ◌≡◌, length};
 ghost use Rattle.console_text.specs.Text.{page};
-ghost use Rattle.console_chip.specs.Answers.{saying};
-ghost use Rattle.console_arrays.specs.Services.{serving};
-ghost use Rattle.console_board.specs.Answers.{board_said};
-ghost use Rattle.console_board.specs.Services.{board_served};
+ghost use Rattle.console_chip.specs.Answers.{said, saying};
+ghost use Rattle.console_arrays.specs.Services.{served, serving};
 ghost use Rattle.console_board.specs.Commands.{board_reply, board_service_reply};
 
-use crate::answers::BoardSpoken;
 use crate::control::{
     fresh_of, grant, make_fresh, pins, read, reset, set_state, state, waits, write,
 };
-use crate::runs::{BoardServed, go_round, run};
+use crate::runs::{go_round, run};
 use crate::sheets::{load, sheet};
 use board::Board;
+use console_arrays::runs::Served;
+use console_chip::answers::Spoken;
 use console_text::forms::{BoardCommand, BoardServiceCommand};
 
+#[tactic(auto, using(std::proofs::lemmas::Bool::Decides::nat_tests), unfolding(crate::specs::Commands::board_reply, words::specs::Choice::when))]
 pub fn board_said(
     b: Board,
     command: BoardCommand,
@@ -25,9 +25,9 @@ pub fn board_said(
     spare: &mut [u8],
     out: &mut [u8],
     at: usize,
-) -> BoardSpoken
+) -> Spoken<Board>
     requires { (70000 ≤ length spare.old) × (length three.now / 2 ≤ length spare.old) }
-    ensures { board_said result out.new ≡ saying (page out.old at) (board_reply command b one.now two.now three.now) }
+    ensures { said result out.new ≡ saying (page out.old at) (board_reply command b one.now two.now three.now) }
 {
     match command {
         BoardCommand::State => state(b, out, at),
@@ -46,6 +46,7 @@ pub fn board_said(
 }
 
 // With memory, device bytes and room lent.
+#[tactic(auto, unfolding(crate::specs::Commands::board_service_reply))]
 pub fn serve_board(
     b: Board,
     command: BoardServiceCommand,
@@ -56,8 +57,8 @@ pub fn serve_board(
     two: &[u8],
     out: &mut [u8],
     at: usize,
-) -> BoardServed
-    ensures { board_served result memory.new room.new out.new ≡ serving (page out.old at) (board_service_reply command b memory.old device.now room.old one.now two.now) }
+) -> Served<Board>
+    ensures { served result memory.new room.new out.new ≡ serving (page out.old at) (board_service_reply command b memory.old device.now room.old one.now two.now) }
 {
     match command {
         BoardServiceCommand::Run => run(b, memory, device, room, one, two, out, at),

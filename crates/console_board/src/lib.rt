@@ -1,7 +1,6 @@
 // The commands on the board.
 #![tactic(auto)]
 
-mod answers;
 pub mod commands;
 mod control;
 mod runs;

@@ -1,34 +1,13 @@
-// The services of the board.
-ghost use Rattle.std.specs.Prelude.{◌≡◌, ℕ, List};
+// The services of the board. A trait over these two and console_arrays' would hold each machine's call, which is all that differs.
+ghost use Rattle.std.specs.Prelude.{◌≡◌};
 ghost use Rattle.console_text.specs.Text.{page};
-ghost use Rattle.console_arrays.specs.Services.{serving, unserved as Services·unserved};
-ghost use Rattle.console_board.specs.Services.{board_served, board_run_reply, board_round_reply};
+ghost use Rattle.console_arrays.specs.Services.{served, serving};
+ghost use Rattle.console_board.specs.Services.{board_run_reply, board_round_reply};
 
 use board::Board;
-use console_arrays::runs::{round_said, run_said};
-use console_chip::answers::{WORD, error};
-use console_text::numbers::{Number, number_of};
-
-// The next board, the device bytes used and written, and the place behind the answer.
-#[derive(Clone, Copy)]
-pub struct BoardServed {
-    pub board: Board,
-    pub used: usize,
-    pub written: usize,
-    pub at: usize,
-}
-
-fn unserved(b: Board, out: &mut [u8], at: usize) -> BoardServed
-    ensures { (m room : List ℕ) → board_served result m room out.new ≡ serving (page out.old at) (Services·unserved b m room) }
-{
-    let next = error(out, at);
-    BoardServed {
-        board: b,
-        used: 0,
-        written: 0,
-        at: next,
-    }
-}
+use console_arrays::runs::{Served, round_served, run_served, unserved};
+use console_chip::answers::WORD;
+use console_text::numbers::number_of;
 
 pub fn run(
     b: Board,
@@ -39,30 +18,17 @@ pub fn run(
     eop: &[u8],
     out: &mut [u8],
     at: usize,
-) -> BoardServed
-    ensures { board_served result memory.new room.new out.new ≡ serving (page out.old at) (board_run_reply b memory.old device.now room.old limit.now eop.now) }
+) -> Served<Board>
+    ensures { served result memory.new room.new out.new ≡ serving (page out.old at) (board_run_reply b memory.old device.now room.old limit.now eop.now) }
 {
-    let most = number_of(limit, WORD);
-    let meets = number_of(eop, WORD);
-    match most {
-        Number::Value(l) => match meets {
-            Number::Value(e) => {
-                let ran = board::run(b, memory, device, room, l as u64, e as u64);
-                let answer = ran.answer;
-                let counts = ran.counts;
-                let next = run_said(answer, counts, out, at);
-                let board = ran.board;
-                BoardServed {
-                    board,
-                    used: counts.used,
-                    written: counts.written,
-                    at: next,
-                }
-            }
-            Number::Bad => unserved(b, out, at),
-        },
-        Number::Bad => unserved(b, out, at),
-    }
+    let Some(l) = number_of(limit, WORD) else {
+        return unserved(b, out, at);
+    };
+    let Some(e) = number_of(eop, WORD) else {
+        return unserved(b, out, at);
+    };
+    let ran = board::run(b, memory, device, room, l as u64, e as u64);
+    run_served(ran.board, ran.answer, ran.counts, out, at)
 }
 
 pub fn go_round(
@@ -73,25 +39,19 @@ pub fn go_round(
     count: &[u8],
     out: &mut [u8],
     at: usize,
-) -> BoardServed
-    ensures { board_served result memory.new room.new out.new ≡ serving (page out.old at) (board_round_reply b memory.old device.now room.old count.now) }
+) -> Served<Board>
+    ensures { served result memory.new room.new out.new ≡ serving (page out.old at) (board_round_reply b memory.old device.now room.old count.now) }
 {
-    let services = number_of(count, WORD);
-    match services {
-        Number::Value(k) => {
-            let done = board::round(b, memory, device, room, k);
-            let answer = done.answer;
-            let begun = done.services;
-            let totals = done.totals;
-            let next = round_said(answer, &begun, totals, out, at);
-            let board = done.board;
-            BoardServed {
-                board,
-                used: totals.used,
-                written: totals.written,
-                at: next,
-            }
-        }
-        Number::Bad => unserved(b, out, at),
-    }
+    let Some(k) = number_of(count, WORD) else {
+        return unserved(b, out, at);
+    };
+    let done = board::round(b, memory, device, room, k);
+    round_served(
+        done.board,
+        done.answer,
+        &done.services,
+        done.totals,
+        out,
+        at,
+    )
 }

@@ -1,5 +1,5 @@
 -- What each command on the controller answers.
-use Rattle.std.specs.Prelude.{ℕ, ◌*◌, Bool, false, List, ◌∷◌, ◌++◌, eqb, length}
+use Rattle.std.specs.Prelude.{ℕ, ◌*◌, Bool, List, ◌∷◌, ◌++◌, eqb, length}
 use Rattle.words.specs.Choice.{when, ◌and◌}
 use Rattle.am9517.specs.State.{fresh}
 use Rattle.am9517.specs.Answers.{write_of, read_of, pins_of, waits_of}
@@ -10,6 +10,7 @@ use Rattle.am9517_sheet.specs.Body.{body_of, state_of}
 use Rattle.console_text.specs.Text.{codes}
 use Rattle.console_text.specs.Numbers.{number_of}
 use Rattle.console_text.specs.Hex.{hex_text, is_bytes, bytes_in}
+use Rattle.console_chip.specs.declared.answers.ValueKind.TheVariants.{Byte}
 use Rattle.console_chip.specs.Answers.{Reply, reply, error_reply, outcome_reply, ok_text, numbered, word_most}
 
 abbrev pub state_text : Controller → List ℕ
@@ -26,18 +27,18 @@ fresh_reply c edition = numbered (number_of 1 edition) (λ (e : ℕ). reply (fre
 abbrev pub write_reply : Controller → List ℕ → List ℕ → Reply Controller
 write_reply c reg byte =
     numbered (number_of word_most reg)
-    (λ (r : ℕ). numbered (number_of 255 byte) (λ (b : ℕ). outcome_reply false (write_of c r b)) (error_reply c))
+    (λ (r : ℕ). numbered (number_of 255 byte) (λ (b : ℕ). outcome_reply Byte (write_of c r b)) (error_reply c))
     (error_reply c)
 
 abbrev pub read_reply : Controller → List ℕ → Reply Controller
-read_reply c reg = numbered (number_of word_most reg) (λ (r : ℕ). outcome_reply false (read_of c r)) (error_reply c)
+read_reply c reg = numbered (number_of word_most reg) (λ (r : ℕ). outcome_reply Byte (read_of c r)) (error_reply c)
 
 abbrev pub pins_reply : Controller → List ℕ → Reply Controller
-pins_reply c levels = numbered (number_of word_most levels) (λ (p : ℕ). outcome_reply false (pins_of c p)) (error_reply c)
+pins_reply c levels = numbered (number_of word_most levels) (λ (p : ℕ). outcome_reply Byte (pins_of c p)) (error_reply c)
 
 -- "N over 255 is `error`"
 abbrev pub waits_reply : Controller → List ℕ → Reply Controller
-waits_reply c states = numbered (number_of 255 states) (λ (n : ℕ). outcome_reply false (waits_of c n)) (error_reply c)
+waits_reply c states = numbered (number_of 255 states) (λ (n : ℕ). outcome_reply Byte (waits_of c n)) (error_reply c)
 
 -- the word is a byte string of n bytes
 unfoldable pub says_bytes : List ℕ → ℕ → Bool

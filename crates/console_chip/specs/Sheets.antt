@@ -1,12 +1,12 @@
 -- What each command on sheets answers, for any form.
-use Rattle.std.specs.Prelude.{ℕ, List, leb, replicate}
+use denote.Ref.{MutBor}
+use Rattle.std.specs.Prelude.{◌≡◌, ℕ, ◌/◌, List, leb, length, replicate, Option, Some, None, Ok, Err}
 use Rattle.words.specs.Choice.{when}
 use Rattle.am9517.specs.declared.Controller.{Controller}
-use Rattle.am9517_sheet.specs.declared.SheetAnswer.{SheetAnswer}
-use Rattle.am9517_sheet.specs.declared.SheetAnswer.TheVariants.{Done, Refused}
+use Rattle.am9517_sheet.specs.Sheet.{SheetAnswer}
 use Rattle.am9517_sheet.specs.declared.SheetRead.{SheetRead}
 use Rattle.am9517_sheet.specs.declared.forms.Form.{Form}
-use Rattle.am9517_sheet.specs.Sheet.{Stored, sheet_write_of, sheet_read_of}
+use Rattle.am9517_sheet.specs.Sheet.{Stored, stored, sheet_write_of, sheet_read_of}
 use Rattle.am9517_sheet.specs.Convert.{convert_of}
 use Rattle.console_text.specs.Numbers.{number_of}
 use Rattle.console_text.specs.Hex.{is_bytes, bytes_in}
@@ -14,26 +14,32 @@ use Rattle.console_chip.specs.Answers.{Reply, reply, error_reply, ok_text, refus
 
 -- a text where a sheet was written, read or converted, or the refusal
 unfoldable pub sheet_said : SheetAnswer → List ℕ → List ℕ
-sheet_said Done text = text
-sheet_said (Refused n) text = refused_text n
+sheet_said (Ok tt) text = text
+sheet_said (Err r) text = refused_text r
+
+-- what calls leave of each slice that they are lent, with their answer, is what `stores` says
+abbrev pub StoresAs : (MutBor (List ℕ) → SheetAnswer → MutBor (List ℕ) → Type 0) → (List ℕ → Stored) → Type 0
+StoresAs calls stores = (lent : MutBor (List ℕ)) (answer : SheetAnswer) (left : MutBor (List ℕ)) → calls lent answer left → stored answer left.now ≡ stores lent.now
 
 -- "into a slice of N bytes 0xEE": "`bytes HEX` of the whole slice, or `refused N`"
 unfoldable pub stored_text : (List ℕ → Stored) → ℕ → List ℕ
 stored_text stores n = let s = stores (replicate n 238) in sheet_said s.answer (bytes_answer s.bytes)
 
-abbrev pub sheet_text : Form → Controller → ℕ → List ℕ
-sheet_text form c n = stored_text (sheet_write_of form c) n
-
-abbrev pub convert_text : Form → List ℕ → ℕ → List ℕ
-convert_text to source n = stored_text (convert_of to source) n
+-- the bytes that digits say, if they have room in an array of this length
+unfoldable pub bytes_within : ℕ → List ℕ → Option (List ℕ)
+bytes_within spare digits = when (leb (length digits / 2) spare) (when (is_bytes digits) (Some (bytes_in digits)) None) None
 
 -- a reply that wants n bytes of an array of this length, where it has them
 abbrev pub within : {A : Type 0} → ℕ → ℕ → A → Reply A → Reply A
 within spare n a r = when (leb n spare) r (error_reply a)
 
+-- "into a slice of N bytes 0xEE (N at most 70,000)"; what the command is on stays
+abbrev pub stored_reply : {A : Type 0} → (List ℕ → Stored) → A → List ℕ → Reply A
+stored_reply stores a size = numbered (number_of 70000 size) (λ (n : ℕ). reply a (stored_text stores n)) (error_reply a)
+
 -- "a sheet is written into a slice of N bytes 0xEE (N at most 70,000)"
 abbrev pub sheet_reply : Form → Controller → List ℕ → Reply Controller
-sheet_reply form c size = numbered (number_of 70000 size) (λ (n : ℕ). reply c (sheet_text form c n)) (error_reply c)
+sheet_reply form c size = stored_reply (sheet_write_of form c) c size
 
 abbrev pub read_sheet : SheetRead → Reply Controller
 read_sheet r = reply r.controller (sheet_said r.answer ok_text)
@@ -44,5 +50,4 @@ load_reply form c digits = when (is_bytes digits) (read_sheet (sheet_read_of for
 
 -- "the sheet at the end of HEX is converted into a slice of N bytes 0xEE (N at most 70,000)": to this form
 abbrev pub convert_reply : Form → Controller → List ℕ → List ℕ → Reply Controller
-convert_reply to c digits size =
-    when (is_bytes digits) (numbered (number_of 70000 size) (λ (n : ℕ). reply c (convert_text to (bytes_in digits) n)) (error_reply c)) (error_reply c)
+convert_reply to c digits size = when (is_bytes digits) (stored_reply (convert_of to (bytes_in digits)) c size) (error_reply c)

@@ -1,19 +1,26 @@
 // The answers' texts.
 ghost use Rattle.std.specs.Prelude.{◌≡◌};
 ghost use Rattle.console_text.specs.Text.{page, put};
-ghost use Rattle.console_chip.specs.Answers.{ok_text, error_text, refused_text, channel_text, byte_text, bytes_answer, value_text, answer_text, reply, error_reply, outcome_reply, said, saying};
+ghost use Rattle.console_chip.specs.Answers.{ok_text, error_text, refused_text, channel_text, byte_text, bytes_answer, value_text, answer_text, reply, error_reply, said, saying};
 
-use am9517::{Answer, Controller, Outcome};
+use am9517::{Answer, Refusal};
 use console_text::page::{bytes, decimal, hex, text};
 
 // The largest register number, place, limit or count that a command takes.
 pub const WORD: u32 = 0xffff_ffff;
 
-// The next controller, and the place behind the answer.
+// What a command is on, as it is next, and the place behind the answer.
 #[derive(Clone, Copy)]
-pub struct Spoken {
-    pub controller: Controller,
+pub struct Spoken<T> {
+    pub next: T,
     pub at: usize,
+}
+
+// What the value is that an operation answers with.
+#[derive(Clone, Copy)]
+pub enum ValueKind {
+    Byte,
+    Channel,
 }
 
 pub fn ok(out: &mut [u8], at: usize) -> usize
@@ -28,85 +35,75 @@ pub fn error(out: &mut [u8], at: usize) -> usize
     text(out, at, b"error")
 }
 
-pub fn refused(out: &mut [u8], at: usize, n: u8) -> usize
-    ensures { page out.new result ≡ put (page out.old at) (refused_text n) }
+pub fn refused(out: &mut [u8], at: usize, refusal: Refusal) -> usize
+    ensures { page out.new result ≡ put (page out.old at) (refused_text refusal) }
 {
-    let next = text(out, at, b"refused ");
-    decimal(out, next, n as u64)
+    let at = text(out, at, b"refused ");
+    decimal(out, at, refusal.number() as u64)
 }
 
 fn channel(out: &mut [u8], at: usize, n: u8) -> usize
     ensures { page out.new result ≡ put (page out.old at) (channel_text n) }
 {
-    let next = text(out, at, b"channel ");
-    decimal(out, next, n as u64)
+    let at = text(out, at, b"channel ");
+    decimal(out, at, n as u64)
 }
 
 fn byte_read(out: &mut [u8], at: usize, b: u8) -> usize
     ensures { page out.new result ≡ put (page out.old at) (byte_text b) }
 {
-    let one = [b; 1];
-    let next = text(out, at, b"byte 0x");
-    hex(out, next, &one)
+    let at = text(out, at, b"byte 0x");
+    hex(out, at, &[b])
 }
 
 pub fn bytes_said(out: &mut [u8], at: usize, s: &[u8]) -> usize
     ensures { page out.new result ≡ put (page out.old at) (bytes_answer s.now) }
 {
-    let next = text(out, at, b"bytes ");
-    bytes(out, next, s)
+    let at = text(out, at, b"bytes ");
+    bytes(out, at, s)
 }
 
-pub fn value(out: &mut [u8], at: usize, v: u8, granting: bool) -> usize
-    ensures { page out.new result ≡ put (page out.old at) (value_text granting v) }
+#[tactic(auto, unfolding(crate::specs::Answers::value_text))]
+fn value(out: &mut [u8], at: usize, v: u8, kind: ValueKind) -> usize
+    ensures { page out.new result ≡ put (page out.old at) (value_text kind v) }
 {
-    if granting {
-        return channel(out, at, v);
+    match kind {
+        ValueKind::Byte => byte_read(out, at, v),
+        ValueKind::Channel => channel(out, at, v),
     }
-    byte_read(out, at, v)
 }
 
-pub fn answered(out: &mut [u8], at: usize, answer: Answer, granting: bool) -> usize
-    ensures { page out.new result ≡ put (page out.old at) (answer_text granting answer) }
+#[tactic(auto, unfolding(crate::specs::Answers::answer_text))]
+fn answered(out: &mut [u8], at: usize, answer: Answer, kind: ValueKind) -> usize
+    ensures { page out.new result ≡ put (page out.old at) (answer_text kind answer) }
 {
     match answer {
-        Answer::Done => ok(out, at),
-        Answer::Value(v) => value(out, at, v, granting),
-        Answer::Refused(n) => refused(out, at, n),
+        Ok(None) => ok(out, at),
+        Ok(Some(v)) => value(out, at, v, kind),
+        Err(refusal) => refused(out, at, refusal),
     }
 }
 
-// An operation's outcome as the answer to its command.
-pub fn tell(out: &mut [u8], at: usize, done: Outcome, granting: bool) -> Spoken
-    ensures { said result out.new ≡ saying (page out.old at) (outcome_reply granting done) }
+// An operation's outcome, what it was done on next and its answer, as the answer to its command.
+pub fn tell<T>(out: &mut [u8], at: usize, next: T, answer: Answer, kind: ValueKind) -> Spoken<T>
+    ensures { said result out.new ≡ saying (page out.old at) (reply next (answer_text kind answer)) }
 {
-    let controller = done.controller;
-    let answer = done.answer;
-    let next = answered(out, at, answer, granting);
-    Spoken {
-        controller,
-        at: next,
-    }
+    let at = answered(out, at, answer, kind);
+    Spoken { next, at }
 }
 
-// The command was done, and the controller is now this one.
-pub(crate) fn agree(out: &mut [u8], at: usize, controller: Controller) -> Spoken
-    ensures { said result out.new ≡ saying (page out.old at) (reply controller ok_text) }
+// The command was done, and what it is on is now this.
+pub fn agree<T>(out: &mut [u8], at: usize, next: T) -> Spoken<T>
+    ensures { said result out.new ≡ saying (page out.old at) (reply next ok_text) }
 {
-    let next = ok(out, at);
-    Spoken {
-        controller,
-        at: next,
-    }
+    let at = ok(out, at);
+    Spoken { next, at }
 }
 
 // Nothing changed.
-pub fn fault(out: &mut [u8], at: usize, controller: Controller) -> Spoken
-    ensures { said result out.new ≡ saying (page out.old at) (error_reply controller) }
+pub fn fault<T>(out: &mut [u8], at: usize, next: T) -> Spoken<T>
+    ensures { said result out.new ≡ saying (page out.old at) (error_reply next) }
 {
-    let next = error(out, at);
-    Spoken {
-        controller,
-        at: next,
-    }
+    let at = error(out, at);
+    Spoken { next, at }
 }

@@ -1,58 +1,103 @@
 // The commands on sheets, for any form.
-ghost use Rattle.std.specs.Prelude.{◌≡◌, ◌≤◌, ◌/◌, length};
+ghost use Rattle.std.specs.Prelude.{◌≡◌, ◌≤◌, ◌/◌, List, ℕ, length};
+ghost use Rattle.std.specs.Option.{option_copied};
+ghost use Rattle.am9517_sheet.specs.Sheet.{Stored};
 ghost use Rattle.console_text.specs.Text.{page, put};
-ghost use Rattle.console_chip.specs.Answers.{ok_text, bytes_answer, said, saying};
-ghost use Rattle.console_chip.specs.Sheets.{sheet_said, sheet_text, convert_text, within, sheet_reply, load_reply, convert_reply};
+ghost use Rattle.console_chip.specs.Answers.{ok_text, bytes_answer, reply, said, saying};
+ghost use Rattle.console_chip.specs.Sheets.{bytes_within, sheet_said, StoresAs, stored_text, stored_reply, within, sheet_reply, load_reply, convert_reply};
 
 use crate::answers::{Spoken, bytes_said, fault, ok, refused};
 use am9517::Controller;
 use am9517_sheet::{Form, SheetAnswer};
 use console_text::hex::{is_bytes, store};
-use console_text::numbers::{Number, number_of};
-use console_text::page::copies;
+use console_text::numbers::number_of;
 
 // The longest slice that a sheet is written into.
-pub const SLICE: usize = 70000;
+const SLICE: usize = 70000;
 
 // What each byte of that slice is before.
-pub const BEFORE: u8 = 0xEE;
+const BEFORE: u8 = 0xEE;
 
-pub fn sheet_said(answer: SheetAnswer, bytes: &[u8], out: &mut [u8], at: usize) -> usize
+#[tactic(auto, unfolding(crate::specs::Sheets::sheet_said))]
+fn sheet_said(answer: SheetAnswer, bytes: &[u8], out: &mut [u8], at: usize) -> usize
     ensures { page out.new result ≡ put (page out.old at) (sheet_said answer (bytes_answer bytes.now)) }
 {
     match answer {
-        SheetAnswer::Done => bytes_said(out, at, bytes),
-        SheetAnswer::Refused(n) => refused(out, at, n),
+        Ok(()) => bytes_said(out, at, bytes),
+        Err(refusal) => refused(out, at, refusal),
     }
 }
 
-pub fn load_said(answer: SheetAnswer, out: &mut [u8], at: usize) -> usize
-    ensures { page out.new result ≡ put (page out.old at) (sheet_said answer ok_text) }
+// A sheet was read, or refused, and what the command is on is now this.
+#[tactic(auto, unfolding(crate::specs::Sheets::sheet_said))]
+pub fn loaded<T>(out: &mut [u8], at: usize, next: T, answer: SheetAnswer) -> Spoken<T>
+    ensures { said result out.new ≡ saying (page out.old at) (reply next (sheet_said answer ok_text)) }
 {
-    match answer {
-        SheetAnswer::Done => ok(out, at),
-        SheetAnswer::Refused(n) => refused(out, at, n),
-    }
+    let at = match answer {
+        Ok(()) => ok(out, at),
+        Err(refusal) => refused(out, at, refusal),
+    };
+    Spoken { next, at }
 }
 
-// The sheet is written into the first n bytes of `spare`.
-fn sheet_of(
-    form: Form,
-    c: Controller,
+// The bytes that a word says, in the front of `spare`, if they have room there.
+#[tactic(auto, using(std::proofs::lemmas::Bool::Decides::nat_tests), unfolding(words::specs::Choice::when, crate::specs::Sheets::bytes_within))]
+pub fn bytes_of<'a>(digits: &[u8], spare: &'a mut [u8]) -> Option<&'a [u8]>
+    ensures { option_copied result ≡ bytes_within (length spare.old) digits.now }
+{
+    let n = digits.len() / 2;
+    if spare.len() < n {
+        return None;
+    }
+    if !is_bytes(digits) {
+        return None;
+    }
+    store(spare, 0, digits);
+    Some(&spare[..n])
+}
+
+// The first n bytes of `spare` after a sheet is stored into them, or the refusal.
+fn stored_said<F: FnOnce(&mut [u8]) -> SheetAnswer>(
     n: usize,
     spare: &mut [u8],
     out: &mut [u8],
     at: usize,
+    store: F,
 ) -> usize
-    requires { n ≤ length spare.old }
-    ensures { page out.new result ≡ put (page out.old at) (sheet_text form c n) }
+    requires fits { n ≤ length spare.old }
+    requires callable { F.IsAlwaysCallable store }
+    ensures { (stores : List ℕ → Stored) → StoresAs (F.post store) stores → page out.new result ≡ put (page out.old at) (stored_text stores n) }
 {
-    let slice = &mut spare[0..n];
-    copies(slice, 0, n, BEFORE);
-    let answer = am9517_sheet::write(form, c, slice);
+    let slice = &mut spare[..n];
+    slice.fill(BEFORE);
+    let answer = store(slice);
     sheet_said(answer, slice, out, at)
 }
 
+// A sheet is stored into a slice of as many bytes as a word says; what the command is on stays.
+#[tactic(auto, using(console_text::proofs::NumberLaws::number_fits, std::proofs::lemmas::Bool::Decides::nat_tests), unfolding(crate::specs::Answers::numbered, words::specs::Choice::when))]
+pub fn stored<T, F: FnOnce(&mut [u8]) -> SheetAnswer>(
+    on: T,
+    size: &[u8],
+    spare: &mut [u8],
+    out: &mut [u8],
+    at: usize,
+    store: F,
+) -> Spoken<T>
+    requires { F.IsAlwaysCallable store }
+    ensures { (stores : List ℕ → Stored) → StoresAs (F.post store) stores → said result out.new ≡ saying (page out.old at) (within (length spare.old) 70000 on (stored_reply stores on size.now)) }
+{
+    if spare.len() < SLICE {
+        return fault(out, at, on);
+    }
+    let Some(n) = number_of(size, 70000) else {
+        return fault(out, at, on);
+    };
+    let at = stored_said(n as usize, spare, out, at, store);
+    Spoken { next: on, at }
+}
+
+#[tactic(auto, using(std::proofs::lemmas::Bool::Decides::nat_tests), unfolding(words::specs::Choice::when))]
 pub fn sheet(
     form: Form,
     c: Controller,
@@ -60,25 +105,20 @@ pub fn sheet(
     spare: &mut [u8],
     out: &mut [u8],
     at: usize,
-) -> Spoken
+) -> Spoken<Controller>
     ensures { said result out.new ≡ saying (page out.old at) (within (length spare.old) 70000 c (sheet_reply form c size.now)) }
 {
-    if spare.len() < SLICE {
-        return fault(out, at, c);
-    }
-    let said = number_of(size, 70000);
-    match said {
-        Number::Value(n) => {
-            let next = sheet_of(form, c, n as usize, spare, out, at);
-            Spoken {
-                controller: c,
-                at: next,
-            }
-        }
-        Number::Bad => fault(out, at, c),
-    }
+    stored(
+        c,
+        size,
+        spare,
+        out,
+        at,
+        |slice| am9517_sheet::write(form, c, slice),
+    )
 }
 
+#[tactic(auto, using(std::proofs::lemmas::Bool::Decides::nat_tests), unfolding(words::specs::Choice::when))]
 pub fn load(
     form: Form,
     c: Controller,
@@ -86,45 +126,17 @@ pub fn load(
     spare: &mut [u8],
     out: &mut [u8],
     at: usize,
-) -> Spoken
+) -> Spoken<Controller>
     ensures { said result out.new ≡ saying (page out.old at) (within (length spare.old) (length digits.now / 2) c (load_reply form c digits.now)) }
 {
-    let n = digits.len() / 2;
-    if spare.len() < n {
+    let Some(bytes) = bytes_of(digits, spare) else {
         return fault(out, at, c);
-    }
-    if !is_bytes(digits) {
-        return fault(out, at, c);
-    }
-    store(spare, 0, digits);
-    let told = am9517_sheet::read(form, c, &spare[0..n]);
-    let controller = told.controller;
-    let answer = told.answer;
-    let next = load_said(answer, out, at);
-    Spoken {
-        controller,
-        at: next,
-    }
+    };
+    let told = am9517_sheet::read(form, c, bytes);
+    loaded(out, at, told.controller, told.answer)
 }
 
-// The sheet at the end of `source` is converted into the first n bytes of `target`.
-fn converted(
-    to: Form,
-    source: &[u8],
-    n: usize,
-    target: &mut [u8],
-    out: &mut [u8],
-    at: usize,
-) -> usize
-    requires { n ≤ length target.old }
-    ensures { page out.new result ≡ put (page out.old at) (convert_text to source.now n) }
-{
-    let slice = &mut target[0..n];
-    copies(slice, 0, n, BEFORE);
-    let answer = am9517_sheet::convert(to, source, slice);
-    sheet_said(answer, slice, out, at)
-}
-
+#[tactic(auto, using(std::proofs::lemmas::Bool::Decides::nat_tests), unfolding(words::specs::Choice::when))]
 pub fn convert(
     to: Form,
     c: Controller,
@@ -133,27 +145,14 @@ pub fn convert(
     spare: &mut [u8],
     out: &mut [u8],
     at: usize,
-) -> Spoken
+) -> Spoken<Controller>
     ensures { said result out.new ≡ saying (page out.old at) (within (length spare.old) (length digits.now / 2) c (convert_reply to c digits.now size.now)) }
 {
-    let n = digits.len() / 2;
-    if spare.len() < n {
+    let Some(source) = bytes_of(digits, spare) else {
         return fault(out, at, c);
-    }
-    if !is_bytes(digits) {
-        return fault(out, at, c);
-    }
-    let said = number_of(size, 70000);
-    match said {
-        Number::Value(m) => {
-            store(spare, 0, digits);
-            let mut target = [0u8; SLICE];
-            let next = converted(to, &spare[0..n], m as usize, &mut target, out, at);
-            Spoken {
-                controller: c,
-                at: next,
-            }
-        }
-        Number::Bad => fault(out, at, c),
-    }
+    };
+    let mut target = [0u8; SLICE];
+    stored(c, size, &mut target, out, at, |slice| {
+        am9517_sheet::convert(to, source, slice)
+    })
 }

@@ -1,5 +1,6 @@
 -- Laws of what the console holds.
 use Prim.Native.Nat.{ℕ, ◌-◌, ◌≤◌}
+use Rattle.std.specs.Prelude.{Option, Some, None}
 use mathlib.Core.Path.{◌≡◌, refl, sym, ap, subst, ◌∙◌}
 use mathlib.Core.Bool.{Bool, true, false}
 use mathlib.Core.List.{List}
@@ -13,14 +14,12 @@ use Rattle.am9517.specs.declared.Controller.{Controller}
 use Rattle.board.specs.declared.Board.{Board}
 use Rattle.console_text.specs.Text.{Page, page, put}
 use Rattle.console_text.specs.Numbers.{number_of}
-use Rattle.console_text.specs.declared.numbers.Number.{Number}
-use Rattle.console_text.specs.declared.numbers.Number.TheVariants.{Value, Bad}
 use Rattle.console_text.proofs.NumberLaws.{number_fits}
 use Rattle.console_chip.specs.Answers.{Reply, numbered}
 use Rattle.console_arrays.specs.Arrays.{lent_of, held, Changed, Shown, shown, showing, Queued, Roomed}
 use Rattle.console_commands.specs.Holding.{having, fresh_console, said, stands, holds, left, leaving}
 use Rattle.console_commands.specs.Doings.{controlled, boarded, lending, remembering, queueing, rooming, further}
-use Rattle.console_commands.specs.Needs.{Standing, queue_part, room_part, with_queue, with_room, with_lent, with_controller, with_board, after_service}
+use Rattle.console_commands.specs.Needs.{Lies, Standing, with_queue, with_room, with_lent, with_controller, with_board, after_service}
 use Rattle.console_commands.specs.declared.Console.{Console}
 use Rattle.console_commands.specs.declared.holding.Executed.{Executed}
 
@@ -40,12 +39,8 @@ module _ (c : Console) (memory queue room spare : ℕ) where
         record {
           lent = leb-true _ _ lent.left;
           whole = leb-true _ _ lent.right;
-          ordered = leb-true _ _ ordered.left;
-          queued = leb-true _ _ queued.left;
-          deep = leb-true _ _ queued.right;
-          placed = leb-true _ _ placed.left;
-          roomed = leb-true _ _ roomed.left;
-          wide = leb-true _ _ roomed.right;
+          queued = record { ordered = leb-true _ _ ordered.left; inside = leb-true _ _ queued.left; deep = leb-true _ _ queued.right };
+          roomed = record { ordered = leb-true _ _ placed.left; inside = leb-true _ _ roomed.left; deep = leb-true _ _ roomed.right };
         },
         leb-true _ _ last.right,
       )
@@ -54,17 +49,17 @@ module _ (c : Console) (memory queue room spare : ℕ) where
   unfolding stands
   stands_so s h =
       both_hold (both_hold (le-leb _ _ s.lent) (le-leb _ _ s.whole))
-      (both_hold (both_hold (le-leb _ _ s.ordered) (both_hold (le-leb _ _ s.queued) (le-leb _ _ s.deep)))
-      (both_hold (both_hold (le-leb _ _ s.placed) (both_hold (le-leb _ _ s.roomed) (le-leb _ _ s.wide))) (le-leb _ _ h)))
+      (both_hold (both_hold (le-leb _ _ s.queued.ordered) (both_hold (le-leb _ _ s.queued.inside) (le-leb _ _ s.queued.deep)))
+      (both_hold (both_hold (le-leb _ _ s.roomed.ordered) (both_hold (le-leb _ _ s.roomed.inside) (le-leb _ _ s.roomed.deep))) (le-leb _ _ h)))
 
 -- "N bytes are lent from now on (0 to 65,537)": no more than there are
 lent_most : (lent m : ℕ) (size : List ℕ) → lent ≤ m → 65537 ≤ m → lent_of lent size ≤ m
 unfolding numbered
 lent_most lent m size h w = go (number_of 65537 size) refl
   where
-    go : (x : Number) → number_of 65537 size ≡ x → numbered x (λ (n : ℕ). n) lent ≤ m
-    go (Value n) e = omega (arith, number_fits 65537 n size e)
-    go Bad e = h
+    go : (x : Option ℕ) → number_of 65537 size ≡ x → numbered x (λ (n : ℕ). n) lent ≤ m
+    go (Some n) e = omega (arith, number_fits 65537 n size e)
+    go None e = h
 
 -- a place further on stays before the last
 pub further_most : (from n last : ℕ) → from ≤ last → further from n last ≤ last
@@ -108,7 +103,8 @@ module _ (c : Console) (p : Page) where
       ap (λ (s : Shown). record { holding = holds c s.array q room; page = s.page }) e
 
   -- the queue
-  pub queued_so : (m q room new out : List ℕ) (r : Executed) (y : Changed) → r.console ≡ with_queue c r → Queued (queue_part r) new out (showing p y)
+  pub queued_so : (m q room new out : List ℕ) (r : Executed) (y : Changed) → r.console ≡ with_queue c r
+      → Queued r.console.start r.console.end new (page out r.at) (showing p y)
       → left r m new room out ≡ leaving p (queueing (holds c m q room) y)
   queued_so m q room new out r y e s =
       ap (λ (x : Console). record { holding = holds x m new room; page = page out r.at }) e
@@ -116,7 +112,7 @@ module _ (c : Console) (p : Page) where
 
   -- the room and its write position
   pub roomed_so : (m q room new out : List ℕ) (r : Executed) (y : Changed) (n : ℕ) → r.console ≡ with_room c r
-      → Roomed (room_part r) new out (showing p y) n → left r m q new out ≡ leaving p (rooming (holds c m q room) y n)
+      → Roomed r.console.written r.console.size new (page out r.at) (showing p y) n → left r m q new out ≡ leaving p (rooming (holds c m q room) y n)
   roomed_so m q room new out r y n e s =
       let queue = held q c.start c.end in
       ap (λ (x : Console). record { holding = holds x m q new; page = page out r.at }) e
@@ -130,43 +126,52 @@ module _ (c : Console) (memory queue room : ℕ) (s : Standing c memory queue ro
     stays_standing e = subst (λ (x : Console). Standing x memory queue room) (sym e) s
 
     -- where its parts do
-    parts_standing : (d : Console) → d.lent ≤ memory → d.start ≤ d.end → d.end ≤ queue → d.written ≤ d.size → d.size ≤ room → next ≡ d
+    parts_standing : (d : Console) → d.lent ≤ memory → Lies d.start d.end queue → Lies d.written d.size room → next ≡ d
         → Standing next memory queue room
-    parts_standing d l o q w r e =
-        subst (λ (x : Console). Standing x memory queue room) (sym e)
-        (record { lent = l; whole = s.whole; ordered = o; queued = q; deep = s.deep; placed = w; roomed = r; wide = s.wide })
+    parts_standing d l q r e =
+        subst (λ (x : Console). Standing x memory queue room) (sym e) (record { lent = l; whole = s.whole; queued = q; roomed = r })
 
     pub controlled_standing : (d : Controller) → next ≡ with_controller c d → Standing next memory queue room
-    controlled_standing d e = parts_standing (with_controller c d) s.lent s.ordered s.queued s.placed s.roomed e
+    controlled_standing d e = parts_standing (with_controller c d) s.lent s.queued s.roomed e
 
     pub boarded_standing : (d : Board) → next ≡ with_board c d → Standing next memory queue room
-    boarded_standing d e = parts_standing (with_board c d) s.lent s.ordered s.queued s.placed s.roomed e
+    boarded_standing d e = parts_standing (with_board c d) s.lent s.queued s.roomed e
 
     pub lent_standing : (size : List ℕ) → next ≡ with_lent c (lent_of c.lent size) → Standing next memory queue room
     lent_standing size e =
         let most = lent_most c.lent memory size s.lent s.whole in
-        parts_standing (with_lent c (lent_of c.lent size)) most s.ordered s.queued s.placed s.roomed e
+        parts_standing (with_lent c (lent_of c.lent size)) most s.queued s.roomed e
 
     pub served_standing : (k : Controller) (b : Board) (used written : ℕ) → next ≡ after_service c k b used written → Standing next memory queue room
     served_standing k b used written e =
-        let start = further_most c.start used c.end s.ordered in
-        let place = further_most c.written written c.size s.placed in
-        parts_standing (after_service c k b used written) s.lent start s.queued place s.roomed e
+        let start = further_most c.start used c.end s.queued.ordered in
+        let place = further_most c.written written c.size s.roomed.ordered in
+        parts_standing (after_service c k b used written) s.lent
+        (record { ordered = start; inside = s.queued.inside; deep = s.queued.deep })
+        (record { ordered = place; inside = s.roomed.inside; deep = s.roomed.deep }) e
 
   module _ (r : Executed) (new out : List ℕ) (y : Shown) where
-    pub queued_standing : length new ≡ queue → r.console ≡ with_queue c r → Queued (queue_part r) new out y → Standing r.console memory queue room
+    pub queued_standing : length new ≡ queue → r.console ≡ with_queue c r
+        → Queued r.console.start r.console.end new (page out r.at) y → Standing r.console memory queue room
     queued_standing l e g =
-        parts_standing r.console (with_queue c r) s.lent g.ordered (omega (arith, g.inside)) s.placed s.roomed e
+        let lies : Lies r.console.start r.console.end queue = record { ordered = g.ordered; inside = omega (arith, g.inside); deep = s.queued.deep } in
+        parts_standing r.console (with_queue c r) s.lent lies s.roomed e
 
-    pub roomed_standing : (n : ℕ) → length new ≡ room → r.console ≡ with_room c r → Roomed (room_part r) new out y n
-        → Standing r.console memory queue room
+    pub roomed_standing : (n : ℕ) → length new ≡ room → r.console ≡ with_room c r
+        → Roomed r.console.written r.console.size new (page out r.at) y n → Standing r.console memory queue room
     roomed_standing n l e g =
-        parts_standing r.console (with_room c r) s.lent s.ordered s.queued g.ordered (omega (arith, g.inside)) e
+        let lies : Lies r.console.written r.console.size room = record { ordered = g.ordered; inside = omega (arith, g.inside); deep = s.roomed.deep } in
+        parts_standing r.console (with_room c r) s.lent s.queued lies e
 
 -- a fresh console stands where the arrays are large enough
 pub fresh_stands : (memory queue room spare : ℕ) → 65537 ≤ memory → 70000 ≤ queue → 70000 ≤ room → 100000 ≤ spare
     → stands fresh_console memory queue room spare ≡ true
 fresh_stands memory queue room spare m q r s =
     stands_so fresh_console memory queue room spare
-    (record { lent = omega arith; whole = m; ordered = omega arith; queued = omega arith; deep = q; placed = omega arith; roomed = omega arith; wide = r })
+    (record {
+      lent = omega arith;
+      whole = m;
+      queued = record { ordered = omega arith; inside = omega arith; deep = q };
+      roomed = record { ordered = omega arith; inside = omega arith; deep = r };
+    })
     s

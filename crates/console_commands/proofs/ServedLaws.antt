@@ -75,7 +75,7 @@ module _ (c : Console) (m q room : List ℕ) (s : Standing c (length m) (length 
           let none : c.lent - 0 ≡ c.lent = omega arith in
           e
           ∙ ap (λ (n : ℕ). serving p (asked (take n m) h.queue (held room c.written c.size))) none
-          ∙ ap (λ (x : List ℕ). serving p (asked (take c.lent m) h.queue x)) (sym (held_front room c.written c.size s.placed s.roomed))
+          ∙ ap (λ (x : List ℕ). serving p (asked (take c.lent m) h.queue x)) (sym (held_front room c.written c.size s.roomed.ordered s.roomed.inside))
 
       abbrev seen : Seen A → Left
       seen x =
@@ -97,9 +97,9 @@ module _ (c : Console) (m q room : List ℕ) (s : Standing c (length m) (length 
       served_so =
           let none : c.lent - 0 ≡ c.lent = omega arith in
           let whole : memory ≡ m' ++ drop c.lent m = ap (λ (n : ℕ). m' ++ drop n m) none in
-          let queue = used_left q c.start c.end used s.ordered s.queued in
-          let back = room_back c.written c.size room room' s.placed s.roomed l in
-          let size : c.size ≡ length h.room = sym (length-take-le c.size room s.roomed) in
+          let queue = used_left q c.start c.end used s.queued.ordered s.queued.inside in
+          let back = room_back c.written c.size room room' s.roomed.ordered s.roomed.inside l in
+          let size : c.size ≡ length h.room = sym (length-take-le c.size room s.roomed.inside) in
           rw (whole, queue, back, ap (further c.written written) size) (ap seen told)
 
       pub service_so : (y : Console) → y ≡ after

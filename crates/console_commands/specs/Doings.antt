@@ -1,5 +1,5 @@
 -- What a line does, command by command: what is held after it, and its answer.
-use Rattle.std.specs.Prelude.{ℕ, ◌+◌, ◌-◌, Bool, true, false, List, [], ◌++◌, eqb, ltb, length, take, drop}
+use Rattle.std.specs.Prelude.{ℕ, ◌+◌, ◌-◌, Bool, List, [], ◌++◌, eqb, ltb, length, take, drop}
 use Rattle.words.specs.Choice.{when}
 use Rattle.am9517.specs.State.{fresh}
 use Rattle.am9517.specs.Answers.{reset_of, grant_of}
@@ -19,6 +19,7 @@ use Rattle.console_text.specs.declared.forms.ArrayCommand.TheVariants.{Memory, P
 use Rattle.console_text.specs.declared.forms.ServiceCommand.{ServiceCommand}
 use Rattle.console_text.specs.declared.forms.ServiceCommand.TheVariants.{Run, Round, Judge}
 use Rattle.console_text.specs.declared.forms.BoardServiceCommand.{BoardServiceCommand}
+use Rattle.console_chip.specs.declared.answers.ValueKind.TheVariants.{Byte, Channel}
 use Rattle.console_chip.specs.Answers.{ok_text, error_text, bytes_answer, Reply, reply, outcome_reply}
 use Rattle.console_chip.specs.Control.{state_text, state_reply, full_text, full_reply, fresh_reply, write_reply, read_reply, pins_reply, waits_reply}
 use Rattle.console_chip.specs.Sheets.{sheet_reply, load_reply, convert_reply}
@@ -40,9 +41,9 @@ chip_reply FreshOf c one two = fresh_reply c one
 chip_reply Write c one two = write_reply c one two
 chip_reply Read c one two = read_reply c one
 chip_reply Pins c one two = pins_reply c one
-chip_reply Reset c one two = outcome_reply false (reset_of c)
+chip_reply Reset c one two = outcome_reply Byte (reset_of c)
 chip_reply Waits c one two = waits_reply c one
-chip_reply Grant c one two = outcome_reply true (grant_of c)
+chip_reply Grant c one two = outcome_reply Channel (grant_of c)
 chip_reply Sheet c one two = sheet_reply One c one
 chip_reply Load c one two = load_reply One c one
 chip_reply Sheet2 c one two = sheet_reply Two c one

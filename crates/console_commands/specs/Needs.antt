@@ -3,21 +3,22 @@ use Rattle.std.specs.Prelude.{ℕ, ◌≤◌, ◌≡◌, List}
 use Rattle.am9517.specs.declared.Controller.{Controller}
 use Rattle.board.specs.declared.Board.{Board}
 use Rattle.console_text.specs.Text.{Page, put}
-use Rattle.console_arrays.specs.declared.arrays.Part.{Part}
 use Rattle.console_commands.specs.declared.Console.{Console}
 use Rattle.console_commands.specs.declared.holding.Executed.{Executed}
 use Rattle.console_commands.specs.Holding.{Said, Left, leaving}
 use Rattle.console_commands.specs.Doings.{further}
 
+-- what is from one place up to another lies in an array of this length: the queue, or the room from its write position on
+pub record Lies (from to size : ℕ) : Type 0 where
+  pub ordered : from ≤ to
+  pub inside : to ≤ size
+  pub deep : 70000 ≤ size
+
 pub record Standing (c : Console) (memory queue room : ℕ) : Type 0 where
   pub lent : c.lent ≤ memory
   pub whole : 65537 ≤ memory
-  pub ordered : c.start ≤ c.end
-  pub queued : c.end ≤ queue
-  pub deep : 70000 ≤ queue
-  pub placed : c.written ≤ c.size
-  pub roomed : c.size ≤ room
-  pub wide : 70000 ≤ room
+  pub queued : Lies c.start c.end queue
+  pub roomed : Lies c.written c.size room
 
 -- what is left of a command, for some text of `show` and `help`
 pub record ForSome (seen : Left) (gives : List ℕ → Said) (p : Page) : Type 0 where
@@ -28,13 +29,6 @@ pub record ForSome (seen : Left) (gives : List ℕ → Said) (p : Page) : Type 0
 pub record Tells (p q : Page) : Type 0 where
   pub text : List ℕ
   pub so : q ≡ put p text
-
--- the queue's part of its array, and the room's of its own
-abbrev pub queue_part : Executed → Part
-queue_part r = record { from = r.console.start; to = r.console.end; at = r.at }
-
-abbrev pub room_part : Executed → Part
-room_part r = record { from = r.console.written; to = r.console.size; at = r.at }
 
 -- a console that differs in its queue, its room, the bytes lent, its controller or its board alone
 abbrev pub with_queue : Console → Executed → Console

@@ -9,6 +9,7 @@ use crate::holding::Executed;
 use console_board::commands::board_said;
 use console_text::forms::BoardCommand;
 
+// The twin of chip::on_chip: one function of both would be lent the field to set and the function to call, and is no shorter.
 pub(crate) fn on_board(
     console: Console,
     command: BoardCommand,
@@ -22,13 +23,12 @@ pub(crate) fn on_board(
     requires { (70000 ≤ length spare.old) × (length three.now / 2 ≤ length spare.old) }
     ensures { (result.console ≡ with_board console (board_reply command console.board one.now two.now three.now).next) × (page out.new result.at ≡ put (page out.old at) (board_reply command console.board one.now two.now three.now).text) }
 {
-    let b = console.board;
-    let done = board_said(b, command, one, two, three, spare, out, at);
-    let board = done.board;
-    let mut next = console;
-    next.board = board;
+    let done = board_said(console.board, command, one, two, three, spare, out, at);
     Executed {
-        console: next,
+        console: Console {
+            board: done.next,
+            ..console
+        },
         at: done.at,
     }
 }

@@ -1,8 +1,7 @@
 // The commands on the controller.
 ghost use Rattle.std.specs.Prelude.{◌≤◌, ◌/◌, ◌≡◌, length};
 ghost use Rattle.console_text.specs.Text.{page, put};
-ghost use Rattle.console_chip.specs.Answers.{reply, said, saying};
-ghost use Rattle.console_chip.specs.Control.{state_text, full_text};
+ghost use Rattle.console_chip.specs.Answers.{said, saying};
 ghost use Rattle.console_commands.specs.Doings.{chip_reply};
 ghost use Rattle.console_commands.specs.Needs.{with_controller};
 
@@ -17,26 +16,7 @@ use console_chip::control::{
 use console_chip::sheets::{convert, load, sheet};
 use console_text::forms::ChipCommand;
 
-fn state_said(c: Controller, out: &mut [u8], at: usize) -> Spoken
-    ensures { said result out.new ≡ saying (page out.old at) (reply c (state_text c)) }
-{
-    let next = state(c, out, at);
-    Spoken {
-        controller: c,
-        at: next,
-    }
-}
-
-fn full_said(c: Controller, out: &mut [u8], at: usize) -> Spoken
-    ensures { said result out.new ≡ saying (page out.old at) (reply c (full_text c)) }
-{
-    let next = full(c, out, at);
-    Spoken {
-        controller: c,
-        at: next,
-    }
-}
-
+#[tactic(auto, using(std::proofs::lemmas::Bool::Decides::nat_tests), unfolding(crate::specs::Doings::chip_reply, words::specs::Choice::when))]
 fn chip_said(
     c: Controller,
     command: ChipCommand,
@@ -45,14 +25,14 @@ fn chip_said(
     spare: &mut [u8],
     out: &mut [u8],
     at: usize,
-) -> Spoken
+) -> Spoken<Controller>
     requires { (70000 ≤ length spare.old) × (length one.now / 2 ≤ length spare.old) }
     ensures { said result out.new ≡ saying (page out.old at) (chip_reply command c one.now two.now) }
 {
     match command {
-        ChipCommand::State => state_said(c, out, at),
+        ChipCommand::State => state(c, out, at),
         ChipCommand::SetState => set_state(c, one, out, at),
-        ChipCommand::Full => full_said(c, out, at),
+        ChipCommand::Full => full(c, out, at),
         ChipCommand::SetFull => set_full(c, one, out, at),
         ChipCommand::Fresh => make_fresh(out, at),
         ChipCommand::FreshOf => fresh_of(c, one, out, at),
@@ -83,13 +63,12 @@ pub(crate) fn on_chip(
     requires { (70000 ≤ length spare.old) × (length one.now / 2 ≤ length spare.old) }
     ensures { (result.console ≡ with_controller console (chip_reply command console.controller one.now two.now).next) × (page out.new result.at ≡ put (page out.old at) (chip_reply command console.controller one.now two.now).text) }
 {
-    let c = console.controller;
-    let done = chip_said(c, command, one, two, spare, out, at);
-    let controller = done.controller;
-    let mut next = console;
-    next.controller = controller;
+    let done = chip_said(console.controller, command, one, two, spare, out, at);
     Executed {
-        console: next,
+        console: Console {
+            controller: done.next,
+            ..console
+        },
         at: done.at,
     }
 }

@@ -19,6 +19,7 @@ use console_text::line::words_in;
 // The longest line, in characters.
 const LONGEST: usize = 200000;
 
+// Each command's own contract names the words and arrays that it is given, so they go one by one, as in `execute`'s.
 fn perform(
     console: Console,
     command: Command,

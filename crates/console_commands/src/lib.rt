@@ -20,6 +20,7 @@ pub use holding::Executed;
 
 // What the console holds beside its arrays: the controller; the board; how many bytes of memory are lent; where the queue begins and
 // ends in its array; the room's size and its write position.
+// Plain numbers, and no Queue and Room: `execute` takes any, and answers `error` where they do not stand in order.
 #[derive(Clone, Copy)]
 pub struct Console {
     pub controller: Controller,

@@ -48,7 +48,7 @@ fn serve(
     spare: &mut [u8],
     out: &mut [u8],
     at: usize,
-) -> Served
+) -> Served<Controller>
     requires { length one.now / 2 ≤ length spare.old }
     ensures { served result memory.new room.new out.new ≡ serving (page out.old at) (service_reply command c memory.old device.now room.old one.now two.now) }
 {
@@ -85,16 +85,15 @@ pub(crate) fn on_services(
     let device = &queue[from..to];
     let rest = &mut room[written..size];
     let done = serve(c, command, front, device, rest, one, two, spare, out, at);
-    let controller = done.controller;
     let mut next = after_service(console, done.used, done.written);
-    next.controller = controller;
+    next.controller = done.next;
     Executed {
         console: next,
         at: done.at,
     }
 }
 
-// The same parts are lent to the board.
+// The same parts are lent to the board. A function that handed the loans out would need starred clauses on how each comes back.
 pub(crate) fn on_board_services(
     console: Console,
     command: BoardServiceCommand,
@@ -119,9 +118,8 @@ pub(crate) fn on_board_services(
     let device = &queue[from..to];
     let rest = &mut room[written..size];
     let done = serve_board(b, command, front, device, rest, one, two, out, at);
-    let board = done.board;
     let mut next = after_service(console, done.used, done.written);
-    next.board = board;
+    next.board = done.next;
     Executed {
         console: next,
         at: done.at,

@@ -1,9 +1,8 @@
 -- Laws of rows.
-use Prim.Native.Nat.{ℕ, zero, suc, ◌+◌, ◌-◌, ◌/◌, ◌≤◌, ◌<◌}
+use Prim.Native.Nat.{ℕ, suc, ◌+◌, ◌-◌, ◌*◌, ◌/◌, ◌≤◌, ◌<◌}
 use mathlib.Core.Path.{◌≡◌, sym, ap, ◌∙◌}
 use mathlib.Core.List.{List, ◌∷◌, ◌++◌}
 use native.Mathlib.Omega.{arith}
-use native.Mathlib.Numerals.{sub-one}
 use lib.ListN.{length, get_or, take, drop, length-drop}
 use lib.Seq.{take_all, drop-drop}
 use borrow.Author.Tests.{ne_eqb, le-leb}
@@ -42,27 +41,34 @@ last_row s from h =
     let size = length-drop from s in
     take_all (length s - from) (drop from s) (omega arith) ∙ sym (take_all 16 (drop from s) (omega arith))
 
--- A turn of the loop over rows, its end and its beginning.
+-- A turn of the loop over rows, its end and its beginning: the first k are told.
 module _ (p r : Page) (s : List ℕ) (a : ℕ) where
-  pub rows_turn : (q t : Page) (left i : ℕ) → 0 < left → q ≡ put_byte p 10 → t ≡ put q (row_text (a + i) (take 16 (drop i s)))
-      → put p (more_rows left (a + i) (drop i s)) ≡ r → put t (more_rows (left - 1) (a + (i + 16)) (drop (i + 16) s)) ≡ r
+  pub rows_turn : (q t : Page) (rows k : ℕ) → k < rows → q ≡ put_byte p 10 → t ≡ put q (row_text (a + 16 * k) (take 16 (drop (16 * k) s)))
+      → put p (more_rows (rows - k) (a + 16 * k) (drop (16 * k) s)) ≡ r
+      → put t (more_rows (rows - (k + 1)) (a + 16 * (k + 1)) (drop (16 * (k + 1)) s)) ≡ r
   unfolding more_rows
-  rows_turn q t zero i h d e was = absurd (omega arith)
-  rows_turn q t (suc n) i h d e was =
+  rows_turn q t rows k h d e was =
+      let n = rows - (k + 1) in
+      let i = 16 * k in
       let row = row_text (a + i) (take 16 (drop i s)) in
+      let left : rows - k ≡ suc n = omega arith in
+      let place : 16 * (k + 1) ≡ i + 16 = omega arith in
       let sum : a + (i + 16) ≡ a + i + 16 = omega arith in
       let told : t ≡ put p (10 ∷ row) = e ∙ ap (λ (x : Page). put x row) d ∙ sym (put_next p 10 row) in
-      rw (told, sub-one (suc n), sum, sym (drop-drop 16 i s)) (sym (put_append p (10 ∷ row) (more_rows n (a + i + 16) (drop 16 (drop i s)))) ∙ was)
+      rw (told, place, sum, sym (drop-drop 16 i s))
+      (sym (put_append p (10 ∷ row) (more_rows n (a + i + 16) (drop 16 (drop i s)))) ∙ rw left at was)
 
-  pub rows_end : (left i : ℕ) → left ≤ 0 → put p (more_rows left (a + i) (drop i s)) ≡ r → p ≡ r
+  pub rows_end : (rows k : ℕ) → rows ≤ k → put p (more_rows (rows - k) (a + 16 * k) (drop (16 * k) s)) ≡ r → p ≡ r
   unfolding more_rows
-  rows_end left i h was = let none : left ≡ 0 = omega arith in sym (put_none p) ∙ rw none at was
+  rows_end rows k h was = let none : rows - k ≡ 0 = omega arith in sym (put_none p) ∙ rw none at was
 
-  pub rows_begin : 1 ≤ length s → p ≡ put r (row_text a (take 16 (drop 0 s))) → put p (more_rows ((length s - 1) / 16) (a + 16) (drop 16 s)) ≡ put r (dump_text a s)
+  pub rows_begin : 1 ≤ length s → p ≡ put r (row_text a (take 16 (drop 0 s)))
+      → put p (more_rows ((length s + 15) / 16 - 1) (a + 16) (drop 16 s)) ≡ put r (dump_text a s)
   unfolding dump_text when
   rows_begin h e =
       let some : length s ≡ 0 → ⊥ = λ z. omega arith in
-      rw (e, ne_eqb _ _ some) (sym (put_append r (row_text a (take 16 s)) (more_rows ((length s - 1) / 16) (a + 16) (drop 16 s))))
+      let more : (length s + 15) / 16 - 1 ≡ (length s - 1) / 16 = omega arith in
+      rw (e, more, ne_eqb _ _ some) (sym (put_append r (row_text a (take 16 s)) (more_rows ((length s - 1) / 16) (a + 16) (drop 16 s))))
 
 -- no bytes
 pub dump_none : (array : List ℕ) (a n : ℕ) → a + n ≤ length array → n ≡ 0 → dump_at array a n ≡ codes "-"

@@ -6,7 +6,7 @@ ghost use Rattle.console_text.specs.Text.{page, put};
 ghost use Rattle.console_dump.specs.Dump.{letter_of, letters as Dump·letters, cell_text, cells as Dump·cells, address_text, row_text, dump_text, dump_at, dump_of};
 
 use console_chip::answers::error;
-use console_text::numbers::{Number, number_of};
+use console_text::numbers::number_of;
 use console_text::page::{byte, copies, hex, text};
 use words::choice::when;
 
@@ -22,10 +22,8 @@ fn letters(out: &mut [u8], at: usize, bytes: &[u8]) -> usize
     ensures { page out.new result ≡ put (page out.old at) (Dump·letters bytes.now) }
 {
     let mut next = at;
-    let mut i = 0;
-    while i < bytes.len() {
-        next = byte(out, next, letter_of(bytes[i]));
-        i += 1;
+    for &b in bytes {
+        next = byte(out, next, letter_of(b));
     }
     next
 }
@@ -42,10 +40,8 @@ fn cells(out: &mut [u8], at: usize, bytes: &[u8]) -> usize
     ensures { page out.new result ≡ put (page out.old at) (Dump·cells bytes.now) }
 {
     let mut next = at;
-    let mut i = 0;
-    while i < bytes.len() {
-        next = cell(out, next, bytes[i]);
-        i += 1;
+    for &b in bytes {
+        next = cell(out, next, b);
     }
     next
 }
@@ -91,13 +87,10 @@ fn rows(out: &mut [u8], at: usize, a: usize, bytes: &[u8]) -> usize
     ensures { page out.new result ≡ put (page out.old at) (dump_text a bytes.now) }
 {
     let mut next = row_from(out, at, a, bytes, 0);
-    let mut left = (bytes.len() - 1) / 16;
-    let mut i = 16;
-    while left > 0 {
+    for k in 1..(bytes.len() + 15) / 16 {
+        let i = 16 * k;
         next = byte(out, next, b'\n');
         next = row_from(out, next, a + i, bytes, i);
-        i += 16;
-        left -= 1;
     }
     next
 }
@@ -119,16 +112,15 @@ fn dump_at(array: &[u8], a: usize, n: usize, out: &mut [u8], at: usize) -> usize
     rows(out, at, a, &array[a..to])
 }
 
+#[tactic(auto, using(console_text::proofs::NumberLaws::number_fits), unfolding(console_chip::specs::Answers::numbered))]
 pub fn dump(array: &[u8], place: &[u8], count: &[u8], out: &mut [u8], at: usize) -> usize
     ensures { page out.new result ≡ put (page out.old at) (dump_of array.now place.now count.now) }
 {
-    let first = number_of(place, WORD);
-    let size = number_of(count, 16384);
-    match first {
-        Number::Value(a) => match size {
-            Number::Value(n) => dump_at(array, a as usize, n as usize, out, at),
-            Number::Bad => error(out, at),
-        },
-        Number::Bad => error(out, at),
-    }
+    let Some(a) = number_of(place, WORD) else {
+        return error(out, at);
+    };
+    let Some(n) = number_of(count, 16384) else {
+        return error(out, at);
+    };
+    dump_at(array, a as usize, n as usize, out, at)
 }

@@ -2,6 +2,7 @@
 // are put safely.
 #![tactic(auto)]
 
+mod asked;
 mod boards;
 mod faults;
 mod forms;
@@ -10,10 +11,13 @@ mod say;
 mod sheets;
 
 use am9517::Controller;
+use asked::Asked;
 use board::Board;
-use console_text::line::same;
+use console_show::page::put;
 use faults::error_in;
 use refusals::refusal;
+use std::fmt;
+use std::fmt::{Display, Formatter, Write};
 
 // What the console holds, as far as an answer depends on it.
 #[derive(Clone, Copy)]
@@ -25,24 +29,32 @@ pub struct Held {
     pub size: usize,
 }
 
-// `rows` are those of help and of the refusals; nothing is said of other answers.
-pub fn explain(
-    held: Held,
-    rows: &[u8],
-    line: &[u8],
-    answer: &[u8],
-    out: &mut [u8],
-    at: usize,
-) -> usize {
-    if same(answer, b"error\n") {
-        return error_in(held, rows, line, out, at);
+// Why a line had this answer; nothing is said of answers that are neither `error` nor `refused N`.
+#[derive(Clone, Copy)]
+struct Why<'a> {
+    asked: Asked<'a>,
+    answer: &'a [u8],
+}
+
+impl Display for Why<'_> {
+    fn fmt<W: Write>(&self, f: &mut Formatter<W>) -> fmt::Result {
+        if matches!(self.answer, b"error\n") {
+            return error_in(f, self.asked);
+        }
+        match number_of(self.answer) {
+            Some(number) => refusal(f, self.asked, number),
+            None => Ok(()),
+        }
     }
-    if answer.len() < 10 {
-        return at;
-    }
-    if !same(&answer[0..8], b"refused ") {
-        return at;
-    }
-    let end = answer.len() - 1;
-    refusal(held, rows, line, &answer[8..end], out, at)
+}
+
+// The number in a line `refused N`.
+fn number_of(answer: &[u8]) -> Option<&[u8]> {
+    answer.strip_prefix(b"refused ")?.strip_suffix(b"\n")
+}
+
+// `line` is what was said, without a comment.
+pub fn explain(held: &Held, line: &[u8], answer: &[u8], out: &mut [u8], at: usize) -> usize {
+    let asked = Asked { held, line };
+    put(out, at, Why { asked, answer })
 }

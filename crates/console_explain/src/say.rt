@@ -1,56 +1,37 @@
-// Parts of an explanation: a word between quotes, rows of help.
-ghost use Rattle.std.specs.Prelude.{◌≤◌, length};
+// A word of a line, shown so that a terminal does not act on it.
+use std::fmt;
+use std::fmt::{Display, Formatter, Write};
 
-use console_show::rows::{row_end, row_from};
-use console_text::page::{byte, text};
-
-// No more of a word than this is shown.
+// No more of a word than this is shown between quotes.
 const SHOWN: usize = 40;
 
-// A terminal does not act on what is shown.
-fn printable(b: u8) -> u8 {
-    if (b < b' ') | (b > b'~') {
-        return b'?';
+fn printable(b: u8) -> char {
+    match b {
+        b' '..=b'~' => char::from(b),
+        _ => '?',
     }
-    b
 }
 
-pub(crate) fn quoted(out: &mut [u8], at: usize, word: &[u8]) -> usize {
-    let mut next = text(out, at, b"'");
-    let mut i = 0;
-    while i < word.len() {
-        if i == SHOWN {
-            return text(out, next, b"..'");
+#[derive(Clone, Copy)]
+pub(crate) struct Shown<'a>(pub(crate) &'a [u8]);
+
+impl Display for Shown<'_> {
+    fn fmt<W: Write>(&self, f: &mut Formatter<W>) -> fmt::Result {
+        for b in self.0.iter() {
+            f.write_char(printable(*b))?;
         }
-        next = byte(out, next, printable(word[i]));
-        i += 1;
+        Ok(())
     }
-    text(out, next, b"'")
 }
 
-// The row at this place, on a line of its own.
-pub(crate) fn row(out: &mut [u8], at: usize, rows: &[u8], from: usize) -> usize
-    requires { from ≤ length rows.now }
-{
-    let end = row_end(rows, from);
-    let next = text(out, at, b"    ");
-    let next = text(out, next, &rows[from..end]);
-    byte(out, next, b'\n')
-}
+#[derive(Clone, Copy)]
+pub(crate) struct Quoted<'a>(pub(crate) &'a [u8]);
 
-// The rows of this name; none has more than four.
-pub(crate) fn rows_of(out: &mut [u8], at: usize, rows: &[u8], name: &[u8]) -> usize {
-    let mut next = at;
-    let mut from = row_from(rows, name, 0);
-    let mut turns: usize = 4;
-    while turns > 0 {
-        turns -= 1;
-        if rows.len() <= from {
-            return next;
-        }
-        next = row(out, next, rows, from);
-        let end = row_end(rows, from);
-        from = row_from(rows, name, end);
+impl Display for Quoted<'_> {
+    fn fmt<W: Write>(&self, f: &mut Formatter<W>) -> fmt::Result {
+        let word = self.0;
+        let shown = Shown(&word[..SHOWN.min(word.len())]);
+        let more = if SHOWN < word.len() { ".." } else { "" };
+        write!(f, "'{shown}{more}'")
     }
-    next
 }

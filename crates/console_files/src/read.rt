@@ -1,48 +1,28 @@
 // A file's bytes, whole or not at all.
-use crate::complaint::{complain, complain_of};
+use crate::fault::{Fault, Teller, Told};
 use crate::system::{open_read, read_full};
-use std::fs::File;
-use std::io::Read as _;
+use std::io::Read;
 
 // No array of the console has more bytes.
 const MOST: usize = 70000;
 
-#[derive(Clone, Copy)]
-pub(crate) enum Read {
-    Whole(usize),
-    Failed,
-}
-
-// Whether all of an open file was read: the end comes next.
-fn is_whole(rt: HostRuntime, file: &File, number: u64, name: &[u8], n: usize) -> bool {
-    let mut input = file;
+// Behind the bytes comes the file's end.
+fn read_whole<'a>(rt: HostRuntime, name: &[u8], bytes: &'a mut [u8]) -> Result<&'a [u8], Fault> {
+    let file = open_read(rt, name)?;
+    let n = read_full(&file, bytes);
+    let mut input = &file;
     let mut more = [0u8; 1];
-    let got = match input.read(&mut more) {
-        Ok(got) => got,
-        Err(error) => {
-            complain(rt, number, name, error);
-            return false;
-        }
-    };
-    if (got > 0) | (MOST < n) {
-        complain_of(rt, number, name, b" has more than 70000 bytes\n");
-        return false;
+    if input.read(&mut more)? > 0 || MOST < n {
+        return Err(Fault::MoreBytes);
     }
-    true
+    Ok(&bytes[..n])
 }
 
 // Puts the bytes of the file at the front of `bytes`.
-pub(crate) fn read_file(rt: HostRuntime, number: u64, name: &[u8], bytes: &mut [u8]) -> Read {
-    let file = match open_read(rt, name) {
-        Ok(file) => file,
-        Err(error) => {
-            complain(rt, number, name, error);
-            return Read::Failed;
-        }
-    };
-    let n = read_full(&file, bytes);
-    if is_whole(rt, &file, number, name, n) {
-        return Read::Whole(n);
-    }
-    Read::Failed
+pub(crate) fn read_file<'a>(
+    teller: Teller,
+    name: &[u8],
+    bytes: &'a mut [u8],
+) -> Result<&'a [u8], Told> {
+    read_whole(teller.rt, name, bytes).map_err(|fault| teller.complain(name, fault))
 }

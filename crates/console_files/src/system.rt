@@ -2,7 +2,6 @@
 // the system's words.
 ghost use Rattle.std.specs.Prelude.{◌≤◌, length};
 
-use console_text::page::decimal;
 use std::fmt::InlineText;
 use std::fs::{File, OpenOptions};
 use std::io::{Error, Print, Read, Write};
@@ -18,15 +17,6 @@ pub fn say(rt: HostRuntime, words: &[u8]) {
     let _ = Print::write_all(&rt.stderr(), words);
 }
 
-pub fn say_number(rt: HostRuntime, n: u64) {
-    let mut page = [0u8; 20];
-    let end = decimal(&mut page, 0, n);
-    if page.len() < end {
-        return;
-    }
-    say(rt, &page[0..end]);
-}
-
 // What failed, and why, in the system's words.
 pub fn say_failed(rt: HostRuntime, what: &[u8], error: Error) {
     let said: InlineText<256> = InlineText::of(error);
@@ -36,11 +26,9 @@ pub fn say_failed(rt: HostRuntime, what: &[u8], error: Error) {
     say(rt, b"\n");
 }
 
-fn without_number(said: &str) -> &str {
-    match said.split_once(" (os error ") {
-        Some((words, _)) => words,
-        None => said,
-    }
+pub(crate) fn without_number(said: &str) -> &str {
+    said.split_once(" (os error ")
+        .map_or(said, |(words, _)| words)
 }
 
 // A name as std takes it, or what the system says of such a name.
@@ -48,10 +36,7 @@ fn path_of(name: &[u8]) -> io::Result<&str> {
     if name.contains(&0) {
         return Err(Error::from_raw_os_error(EINVAL));
     }
-    match str::from_utf8(name) {
-        Ok(path) => Ok(path),
-        Err(_) => Err(Error::from_raw_os_error(EILSEQ)),
-    }
+    str::from_utf8(name).map_err(|_| Error::from_raw_os_error(EILSEQ))
 }
 
 // Opens it as it is, for reading.
@@ -69,13 +54,8 @@ const REPORT: &str = "/dev/fd/3";
 
 // Tells a status to who started the program, behind what stands there: whether it could be told.
 pub fn report(rt: HostRuntime, status: u8) -> bool {
-    let mut page = [0u8; 20];
-    let end = decimal(&mut page, 0, u64::from(status));
-    if page.len() < end {
-        return false;
-    }
     match OpenOptions::new().append(true).open(&rt, REPORT) {
-        Ok(mut waiting) => waiting.write_all(&page[0..end]).is_ok(),
+        Ok(mut waiting) => write!(waiting, "{status}").is_ok(),
         Err(_) => false,
     }
 }
@@ -96,6 +76,7 @@ pub(crate) fn unlink(rt: HostRuntime, name: &[u8]) -> io::Result<()> {
     fs::remove_file(&rt, path_of(name)?)
 }
 
+// An index by hand: `read_exact` doesn't tell how many bytes a file has that ends before the array is full.
 // Reads until the array is full, the file ends or a read fails, which the next one tells; how many bytes it put at the front.
 pub fn read_full(file: &File, bytes: &mut [u8]) -> usize
     ensures { result ≤ length bytes.new }

@@ -3,9 +3,10 @@
 #![tactic(auto)]
 
 mod files;
+mod findings;
 mod parts;
-mod read;
 mod says;
+mod source;
 
 pub use files::judge_files;
 pub use says::UNHEARD;

@@ -9,12 +9,13 @@ ghost use Rattle.console_session.specs.Script.{answer_of, gathered, gather_from}
 use console_chip::answers::error;
 use console_commands::{Console, Executed, execute};
 use console_text::line::{end_of, said};
-use console_text::page::byte;
+use console_text::page::{byte, text};
 
 // The longest line that is read; the line's array has two places more, for a carriage return and for one too many.
 const LONGEST: usize = 200000;
 
 // How far a line under way has come: its length in its array, the place in the part behind it, and whether it has ended.
+// A flag beside a place: of a line that has not ended, too, `taken` tells how much of the part is gone.
 #[derive(Clone, Copy)]
 pub struct Reached {
     pub length: usize,
@@ -23,28 +24,21 @@ pub struct Reached {
 }
 
 // Characters go to the line's array up to a newline or the part's end; those that find no room are left out.
-#[tactic(auto, using(crate::proofs::GatherLaws::gather_newline))]
 pub fn gather(line: &mut [u8], length: usize, part: &[u8], from: usize) -> Reached
     ensures { gathered result line.new ≡ gather_from (page line.old length) (drop from part.now) from }
 {
-    let mut next = length;
-    let mut i = from;
-    while i < part.len() {
-        let b = part[i];
-        i += 1;
-        if b == b'\n' {
-            return Reached {
-                length: next,
-                taken: i,
-                ended: true,
-            };
-        }
-        next = byte(line, next, b);
-    }
-    Reached {
-        length: next,
-        taken: i,
-        ended: false,
+    let rest = &part[from.min(part.len())..];
+    match rest.iter().position(|&b| b == b'\n') {
+        Some(n) => Reached {
+            length: text(line, length, &rest[..n]),
+            taken: from + n + 1,
+            ended: true,
+        },
+        None => Reached {
+            length: text(line, length, rest),
+            taken: from + rest.len(),
+            ended: false,
+        },
     }
 }
 

@@ -2,9 +2,12 @@
 #![tactic(auto)]
 
 mod advice;
-pub mod names;
+mod helping;
+mod names;
+pub mod page;
 pub mod rows;
 mod table;
 
-pub use advice::{help, help_on, help_refusals, help_rows};
-pub use table::{channel_rows, heading, other_rows, range_row, show, show_arrays, show_room};
+pub use advice::{COMMANDS, REFUSALS};
+pub use helping::{help, help_on, help_refusals};
+pub use table::{ChannelRows, HEADING, Numbered, OtherRows, Ranges, show, show_arrays, show_room};

@@ -1,64 +1,69 @@
 -- Laws of byte strings.
-use Prim.Native.Nat.{ℕ, ◌+◌, ◌-◌, ◌*◌, ◌/◌, ◌%◌, ◌≤◌, ◌<◌}
-use mathlib.Core.Path.{◌≡◌, refl, sym, ap, ◌∙◌}
-use mathlib.Core.List.{List, [], ◌∷◌}
+use Prim.Native.Nat.{ℕ, ◌+◌, ◌*◌, ◌/◌, ◌%◌, ◌<◌}
+use mathlib.Core.Path.{◌≡◌, refl, ap}
+use mathlib.Core.Bool.{not, ◌&&◌}
+use mathlib.Core.List.{List, [], ◌∷◌, ◌++◌}
 use native.Mathlib.Omega.{arith}
-use lib.ListN.{length, get_or, drop, length-drop}
+use native.Mathlib.Numerals.{add-one}
+use lib.ListN.{length, get_or, take}
+use lib.Seq.{take-suc}
 use Rattle.console_text.specs.Text.{Page, put_byte, put}
-use Rattle.console_text.specs.Numbers.{glyph}
-use Rattle.console_text.specs.Hex.{hex_text, bytes_in, nibble}
-use Rattle.console_text.proofs.TextLaws.{put_none, put_next, drop_next, drop_end}
+use Rattle.words.specs.Choice.{when, ◌and◌}
+use Rattle.words.proofs.ChoiceLaws.{when_each}
+use borrow.Author.Tests.{ltb-true, ltb-false, eq-eqb, ne_eqb}
+use lib.Dec.{ltb, eqb}
+use Rattle.std.specs.Option.{unwrap_or}
+use Rattle.console_text.specs.Numbers.{digit_of, digit_in, glyph, all_digits}
+use Rattle.console_text.specs.Hex.{hex_text, bytes_in, nibble, is_bytes}
+use Rattle.console_text.proofs.TextLaws.{put_append}
+use Rattle.console_text.proofs.NumberLaws.{digit_most}
 
-hex_next : (s : List ℕ) (i : ℕ) → i < length s
-    → hex_text (drop i s) ≡ glyph (get_or s i 0 / 16) ∷ glyph (get_or s i 0 % 16) ∷ hex_text (drop (i + 1) s)
+pub hex_none : (p : Page) → put p (hex_text []) ≡ p
+unfolding hex_text put
+hex_none p = refl
+
+hex_append : (xs : List ℕ) (b : ℕ) → hex_text (xs ++ (b ∷ [])) ≡ hex_text xs ++ (glyph (b / 16) ∷ glyph (b % 16) ∷ [])
 unfolding hex_text
-hex_next s i h = rw (drop_next s i h)
+hex_append [] b = refl
+hex_append (x ∷ xs) b = ap (λ (l : List ℕ). glyph (x / 16) ∷ glyph (x % 16) ∷ l) (hex_append xs b)
 
-hex_none : hex_text [] ≡ []
-unfolding hex_text
-hex_none = refl
+put_two : (p : Page) (x y : ℕ) → put p (x ∷ y ∷ []) ≡ put_byte (put_byte p x) y
+unfolding put
+put_two p x y = refl
 
-bytes_next : (s : List ℕ) (j : ℕ) → j + 1 < length s
-    → bytes_in (drop j s) ≡ (16 * nibble (get_or s j 0) + nibble (get_or s (j + 1) 0)) ∷ bytes_in (drop (j + 2) s)
-unfolding bytes_in
-bytes_next s j h =
-    let e : j + 1 + 1 ≡ j + 2 = omega arith in
-    rw (drop_next s j (omega arith), drop_next s (j + 1) h, e)
+-- One byte more of a string is two digits more on the page.
+pub hex_more : (p : Page) (s : List ℕ) (i : ℕ) → i < length s
+    → put p (hex_text (take (i + 1) s)) ≡ put_byte (put_byte (put p (hex_text (take i s))) (glyph (get_or s i 0 / 16))) (glyph (get_or s i 0 % 16))
+hex_more p s i h = rw (add-one i, take-suc s i 0 h, hex_append (take i s) (get_or s i 0), put_append p (hex_text (take i s)) (glyph (get_or s i 0 / 16) ∷ glyph (get_or s i 0 % 16) ∷ []), put_two) refl
 
--- fewer than two characters say no byte
-bytes_short : (xs : List ℕ) → length xs ≤ 1 → bytes_in xs ≡ []
-unfolding bytes_in
-bytes_short [] h = refl
-bytes_short (x ∷ []) h = refl
-bytes_short (x ∷ y ∷ ys) h = absurd (omega arith)
+-- A digit's four bits are its value, or 0 where it is none.
+pub nibble_said : (b : ℕ) → unwrap_or (digit_in 16 b) 0 ≡ nibble b
+unfolding digit_in
+nibble_said b = when_each (λ d. unwrap_or d 0 ≡ nibble b) (ltb (digit_of b) 16) (λ e. let l : digit_of b < 16 = ltb-true _ _ e in omega arith) (λ e. let l : digit_of b ≡ 16 = omega (arith, ltb-false _ _ e, digit_most b) in rw l refl)
 
--- A turn of the loop that prints bytes, and of the one that stores them.
-module _ (p r : Page) (s : List ℕ) (i : ℕ) where
-  pub hex_turn : (m q : Page) → i < length s → m ≡ put_byte p (glyph (get_or s i 0 / 16)) → q ≡ put_byte m (glyph (get_or s i 0 % 16))
-      → put p (hex_text (drop i s)) ≡ r → put q (hex_text (drop (i + 1) s)) ≡ r
-  hex_turn m q h d e was =
-      rw (
-        e,
-        d,
-        ← (put_next (put_byte p (glyph (get_or s i 0 / 16))) (glyph (get_or s i 0 % 16)) (hex_text (drop (i + 1) s))),
-        ← (put_next p (glyph (get_or s i 0 / 16)) (glyph (get_or s i 0 % 16) ∷ hex_text (drop (i + 1) s))),
-        ← (hex_next s i h),
-      ) was
+-- The byte of a pair of digits, and none of fewer.
+pub bytes_next : (p : Page) (two rest : List ℕ) → length two ≡ 2
+    → put p (bytes_in (two ++ rest)) ≡ put (put_byte p (16 * nibble (get_or two 0 0) + nibble (get_or two 1 0))) (bytes_in rest)
+unfolding bytes_in put
+bytes_next p [] rest h = absurd (omega arith)
+bytes_next p (x ∷ []) rest h = absurd (omega arith)
+bytes_next p (x ∷ y ∷ []) rest h = refl
+bytes_next p (x ∷ y ∷ z ∷ more) rest h = absurd (omega arith)
 
-  pub hex_end : length s ≤ i → put p (hex_text (drop i s)) ≡ r → p ≡ r
-  hex_end h was = sym (put_none p) ∙ rw (drop_end s i h, hex_none) at was
+pub bytes_end : (p : Page) (rest : List ℕ) → length rest < 2 → put p (bytes_in rest) ≡ p
+unfolding bytes_in put
+bytes_end p [] h = refl
+bytes_end p (x ∷ []) h = refl
+bytes_end p (x ∷ y ∷ ys) h = absurd (omega arith)
 
-  pub bytes_turn : (q : Page) → 1 ≤ i → i < length s → q ≡ put_byte p (16 * nibble (get_or s (i - 1) 0) + nibble (get_or s i 0))
-      → put p (bytes_in (drop (i - 1) s)) ≡ r → put q (bytes_in (drop (i + 2 - 1) s)) ≡ r
-  bytes_turn q k h e was =
-      let j = i - 1 in
-      let here : i ≡ j + 1 = omega arith in
-      let next : i + 2 - 1 ≡ j + 2 = omega arith in
-      let said : q ≡ put_byte p (16 * nibble (get_or s j 0) + nibble (get_or s (j + 1) 0)) = e ∙ ap (λ (n : ℕ). put_byte p (16 * nibble (get_or s j 0) + nibble (get_or s n 0))) here in
-      rw (next, said, ← (put_next p (16 * nibble (get_or s j 0) + nibble (get_or s (j + 1) 0)) (bytes_in (drop (j + 2) s))), ← (bytes_next s j (omega arith))) was
+-- A word of one character, and any other.
+pub is_dash : (s : List ℕ) → length s ≡ 1 → is_bytes s ≡ eqb (get_or s 0 0) 45
+unfolding is_bytes when
+is_dash s e = rw (eq-eqb _ _ e) refl
 
-  pub bytes_end : 1 ≤ i → length s ≤ i → put p (bytes_in (drop (i - 1) s)) ≡ r → p ≡ r
-  bytes_end k h was = sym (put_none p) ∙ rw (bytes_short (drop (i - 1) s) (omega (arith, length-drop (i - 1) s))) at was
+pub is_pairs : (s : List ℕ) → (length s ≡ 1 → ⊥) → is_bytes s ≡ (not (eqb (length s) 0) && (eqb (length s % 2) 0 && all_digits 16 s))
+unfolding is_bytes when ◌and◌
+is_pairs s e = rw (ne_eqb _ _ e) refl
 
 -- two digits a byte
 pub bytes_length : (xs : List ℕ) → length (bytes_in xs) ≡ length xs / 2

@@ -4,3 +4,4 @@ pub mod NumberLaws
 pub mod SignedLaws
 pub mod HexLaws
 pub mod LineLaws
+pub mod CommandLaws

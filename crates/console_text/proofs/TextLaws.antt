@@ -1,14 +1,16 @@
 -- Laws of text put on a page.
-use Prim.Native.Nat.{ℕ, zero, suc, ◌+◌, ◌-◌, ◌≤◌, ◌<◌}
-use mathlib.Core.Path.{◌≡◌, refl, sym, ap, ◌∙◌}
-use mathlib.Core.Bool.{Bool, true, false, ◌&&◌}
+use Prim.Native.Nat.{ℕ, zero, suc, ◌+◌, ◌≤◌, ◌<◌}
+use mathlib.Core.Path.{◌≡◌, refl, ap, ◌∙◌}
+use mathlib.Core.Bool.{Bool, ◌&&◌}
 use mathlib.Core.List.{List, [], ◌∷◌, ◌++◌, append-nil}
 use native.Mathlib.Omega.{arith}
-use native.Mathlib.Numerals.{add-one, sub-one}
+use native.Mathlib.Numerals.{add-one}
 use lib.ListN.{length, get_or, take, drop, set, replicate, length-set, drop_of_length-le}
-use lib.Seq.{drop-cons, sets, sets-eq, take-append_seam}
+use lib.Seq.{drop-cons, take-suc, sets, sets-eq, take-append_seam}
 use lib.Dec.{eqb}
-use borrow.Author.Tests.{lt-ltb, eq-eqb, ne_eqb}
+use Rattle.std.specs.Prelude.{nat_eq}
+use Rattle.std.specs.Cmp.Lexicographic.{pointwise}
+use borrow.Author.Tests.{lt-ltb}
 use Rattle.words.specs.Choice.{when}
 use Rattle.console_text.specs.Text.{same, Page, page, put_byte, put}
 
@@ -54,55 +56,22 @@ pub put_room : (bs xs : List ℕ) (at : ℕ) → at + length bs ≤ length xs
     → put (page xs at) bs ≡ page (take at xs ++ bs ++ drop (at + length bs) xs) (at + length bs)
 put_room bs xs at h = put_sets bs xs at h ∙ ap (λ (l : List ℕ). page l (at + length bs)) (sets-eq bs xs at h)
 
--- A turn of a loop that puts bytes: what is left on the next page gives what was left on this one.
-module _ (p r : Page) where
-  pub text_turn : (q : Page) (s : List ℕ) (i : ℕ) → i < length s → q ≡ put_byte p (get_or s i 0) → put p (drop i s) ≡ r → put q (drop (i + 1) s) ≡ r
-  text_turn q s i h e was = rw (e, ← (put_next p (get_or s i 0) (drop (i + 1) s)), ← (drop_next s i h)) was
+-- One character more of a text, and one copy more of a byte, are one byte more on the page.
+pub put_more : (p : Page) (s : List ℕ) (i : ℕ) → i < length s → put p (take (i + 1) s) ≡ put_byte (put p (take i s)) (get_or s i 0)
+put_more p s i h = rw (add-one i, take-suc s i 0 h, put_append p (take i s) (get_or s i 0 ∷ []), put_one_lem) refl
 
-  pub text_end : (s : List ℕ) (i : ℕ) → length s ≤ i → put p (drop i s) ≡ r → p ≡ r
-  text_end s i h was = sym (put_none p) ∙ rw (drop_end s i h) at was
+pub put_copy : (p : Page) (n b : ℕ) → put p (replicate (n + 1) b) ≡ put_byte (put p (replicate n b)) b
+unfolding put
+put_copy p zero b = refl
+put_copy p (suc n) b = rw (add-one (suc n)) (rw (add-one n) at (put_copy (put_byte p b) n b))
 
-  pub copies_turn : (q : Page) (n b : ℕ) → 0 < n → q ≡ put_byte p b → put p (replicate n b) ≡ r → put q (replicate (n - 1) b) ≡ r
-  copies_turn q zero b h e was = absurd (omega arith)
-  copies_turn q (suc n) b h e was = rw (e, sub-one (suc n), ← (put_next p b (replicate n b))) was
-
-  pub copies_end : (n b : ℕ) → n ≤ 0 → put p (replicate n b) ≡ r → p ≡ r
-  copies_end n b h was = let z : n ≡ 0 = omega arith in sym (put_none p) ∙ rw z at was
-
--- Two texts compared, place by place.
-same_none : true ≡ same [] []
+-- Two texts are the same where `==` says so of their bytes.
+pub same_is : (a b : List ℕ) → pointwise nat_eq a b ≡ same a b
 unfolding same
-same_none = refl
-
-and_no : (t : Bool) → (t && false) ≡ false
-and_no true = refl
-and_no false = refl
-
-same_sizes : (a b : List ℕ) → (length a ≡ length b → ⊥) → same a b ≡ false
-unfolding same
-same_sizes [] [] h = absurd (h refl)
-same_sizes [] (y ∷ ys) h = refl
-same_sizes (x ∷ xs) [] h = refl
-same_sizes (x ∷ xs) (y ∷ ys) h = rw (same_sizes xs ys (λ e. h (ap suc e))) (and_no (eqb x y))
-
-same_next : (a b : List ℕ) (i : ℕ) → i < length a → i < length b
-    → same (drop i a) (drop i b) ≡ (eqb (get_or a i 0) (get_or b i 0) && same (drop (i + 1) a) (drop (i + 1) b))
-unfolding same
-same_next a b i h l = rw (drop_next a i h, drop_next b i l)
-
-module _ (a b : List ℕ) where
-  pub same_differ : (length a ≡ length b → ⊥) → false ≡ same a b
-  same_differ h = sym (same_sizes a b h)
-
-  module _ (i : ℕ) (r : Bool) where
-    pub same_turn : i < length a → i < length b → get_or a i 0 ≡ get_or b i 0 → same (drop i a) (drop i b) ≡ r → same (drop (i + 1) a) (drop (i + 1) b) ≡ r
-    same_turn h l e was = rw (same_next a b i h l, eq-eqb _ _ e) at was
-
-    pub same_stop : i < length a → i < length b → (get_or a i 0 ≡ get_or b i 0 → ⊥) → same (drop i a) (drop i b) ≡ r → false ≡ r
-    same_stop h l e was = rw (same_next a b i h l, ne_eqb _ _ e) at was
-
-    pub same_end : length a ≤ i → length b ≤ i → same (drop i a) (drop i b) ≡ r → true ≡ r
-    same_end h l was = same_none ∙ rw (drop_end a i h, drop_end b i l) at was
+same_is [] [] = refl
+same_is [] (y ∷ ys) = refl
+same_is (x ∷ xs) [] = refl
+same_is (x ∷ xs) (y ∷ ys) = ap (λ (t : Bool). eqb x y && t) (same_is xs ys)
 
 -- Bytes put at a slice's front stand there, and are the whole slice if they have its length.
 module _ (bs xs ys : List ℕ) (r : ℕ) (e : page ys r ≡ put (page xs 0) bs) where

@@ -1,14 +1,11 @@
 -- The words of a line: "Words are separated by blanks or tabs", "# starts a comment that runs to the end of the line",
 -- "a carriage return at the end of a line is ignored".
-use Rattle.std.specs.Prelude.{ℕ, ◌+◌, ◌-◌, Bool, not, ◌||◌, List, [], ◌∷◌, eqb, ltb, length, get_or, take, drop}
+use Rattle.std.specs.Prelude.{ℕ, ◌+◌, ◌-◌, Bool, not, ◌||◌, List, eqb, ltb, length, get_or, take, drop}
+use Rattle.std.specs.List.{prefix_len}
 use Rattle.words.specs.Choice.{when}
-use Rattle.console_text.specs.declared.line.Span.{Span}
+use native.Mathlib.Omega.{arith}
+use Rattle.console_text.specs.declared.span.Span.{Span}
 use Rattle.console_text.specs.declared.line.Words.{Words}
-
--- how many characters at the front pass the test
-unfoldable pub run : (ℕ → Bool) → List ℕ → ℕ
-run test [] = 0
-run test (x ∷ xs) = when (test x) (run test xs + 1) 0
 
 -- a blank or a tab
 unfoldable pub is_blank : ℕ → Bool
@@ -23,10 +20,10 @@ is_said b = not (eqb b 35)
 
 -- the word behind place `at`; it is empty where there is none
 abbrev pub word_from : List ℕ → ℕ → Span
-word_from s from = record { from = from; to = from + run is_letter (drop from s) }
+word_from s from = record { from = from; to = from + prefix_len is_letter (drop from s); ordered = omega arith }
 
 abbrev pub word_at : List ℕ → ℕ → Span
-word_at s at = word_from s (at + run is_blank (drop at s))
+word_at s at = word_from s (at + prefix_len is_blank (drop at s))
 
 -- what stands there
 abbrev pub cut : List ℕ → Span → List ℕ
@@ -54,4 +51,4 @@ end_of s = when (eqb (get_or s (length s - 1) 0) 13) (length s - 1) (length s)
 
 -- and of what it says before a comment
 abbrev pub said_in : List ℕ → ℕ
-said_in s = run is_said (take (end_of s) s)
+said_in s = prefix_len is_said (take (end_of s) s)

@@ -1,9 +1,7 @@
 -- Numbers as text: "Numbers are decimal or 0x hexadecimal."
-use Rattle.std.specs.Prelude.{ℕ, zero, suc, ◌+◌, ◌-◌, ◌*◌, ◌/◌, ◌%◌, Bool, true, List, [], ◌∷◌, ◌++◌, ltb, leb, eqb, ℤ, pos, negsuc, length, get_or, drop}
+use Rattle.std.specs.Prelude.{ℕ, zero, suc, ◌+◌, ◌-◌, ◌*◌, ◌/◌, ◌%◌, Bool, true, List, [], ◌∷◌, ◌++◌, ltb, leb, eqb, ℤ, pos, negsuc, length, get_or, drop, Option, Some, None}
 use Rattle.words.specs.Choice.{when, ◌and◌}
 use Rattle.console_text.specs.Text.{codes}
-use Rattle.console_text.specs.declared.numbers.Number.{Number}
-use Rattle.console_text.specs.declared.numbers.Number.TheVariants.{Value, Bad}
 
 -- the value of a digit, 0 to 9, A to F, a to f; 16 for any other character
 unfoldable pub digit_of : ℕ → ℕ
@@ -14,6 +12,10 @@ digit_of b =
     (when (leb b 70) (b - 55)
     (when (ltb b 97) 16
     (when (leb b 102) (b - 87) 16)))))
+
+-- the value of a digit of a base
+unfoldable pub digit_in : ℕ → ℕ → Option ℕ
+digit_in base b = when (ltb (digit_of b) base) (Some (digit_of b)) None
 
 -- the character of a digit below 16, in lower case
 unfoldable pub glyph : ℕ → ℕ
@@ -30,20 +32,20 @@ value_from base v [] = v
 value_from base v (x ∷ xs) = value_from base (v * base + digit_of x) xs
 
 -- the number that v and the digits behind it say; one over `most` does not fit its place
-unfoldable pub number_from : ℕ → ℕ → ℕ → List ℕ → Number
+unfoldable pub number_from : ℕ → ℕ → ℕ → List ℕ → Option ℕ
 number_from base most v ds =
-    when (all_digits base ds and leb (value_from base v ds) most) (Value (value_from base v ds)) Bad
+    when (all_digits base ds and leb (value_from base v ds) most) (Some (value_from base v ds)) None
 
 -- a number has a digit
-unfoldable pub number_in : ℕ → ℕ → List ℕ → Number
-number_in base most ds = when (eqb (length ds) 0) Bad (number_from base most 0 ds)
+unfoldable pub number_in : ℕ → ℕ → List ℕ → Option ℕ
+number_in base most ds = when (eqb (length ds) 0) None (number_from base most 0 ds)
 
 -- "0x"
 unfoldable pub prefixed : List ℕ → Bool
 prefixed text = leb 2 (length text) and eqb (get_or text 0 0) 48 and eqb (get_or text 1 0) 120
 
 -- the number that a word says, at most `most`
-unfoldable pub number_of : ℕ → List ℕ → Number
+unfoldable pub number_of : ℕ → List ℕ → Option ℕ
 number_of most text = when (prefixed text) (number_in 16 most (drop 2 text)) (number_in 10 most text)
 
 -- the digits of n in a base; there are fewer of them than the first number

@@ -6,3 +6,4 @@ pub mod hex;
 pub mod line;
 pub mod numbers;
 pub mod page;
+pub mod span;

@@ -1,81 +1,56 @@
 // The words of a line.
-ghost use Rattle.std.specs.Prelude.{◌≡◌, ◌+◌, ◌≤◌, length, drop};
+ghost use Rattle.std.specs.Prelude.{◌≡◌, ◌+◌, ◌≤◌, length};
+ghost use Rattle.std.specs.List.{prefix_len};
 ghost use Rattle.console_text.specs.Text.{same as Text·same};
-ghost use Rattle.console_text.specs.Lines.{run, is_blank, is_letter, is_said, word_at, one_if, words_in, end_of, said_in};
+ghost use Rattle.console_text.specs.Lines.{is_blank, is_letter, word_at, one_if, words_in, end_of, said_in};
+
+pub use crate::span::Span;
 
 // Whether two words are the same.
+#[tactic(auto, using(crate::proofs::TextLaws::same_is))]
 pub fn same(a: &[u8], b: &[u8]) -> bool
     ensures { result ≡ Text·same a.now b.now }
 {
-    if a.len() != b.len() {
-        return false;
-    }
-    let mut i = 0;
-    while i < a.len() {
-        if a[i] != b[i] {
-            return false;
-        }
-        i += 1;
-    }
-    true
+    a == b
 }
 
-// A word is what stands from `from` up to `to`; none, where the two are equal.
-#[derive(Clone, Copy)]
-pub struct Span {
-    pub from: usize,
-    pub to: usize,
-}
-
+#[tactic(auto, unfolding(crate::specs::Lines::is_blank))]
 fn is_blank(b: u8) -> bool
     ensures { result ≡ is_blank b }
 {
     (b == b' ') | (b == b'\t')
 }
 
-fn blanks_end(s: &[u8], at: usize) -> usize
-    requires { at ≤ length s.now }
-    ensures { (result ≡ at + run is_blank (drop at s.now)) × (result ≤ length s.now) }
+fn blanks(s: &[u8]) -> usize
+    ensures { (result ≡ prefix_len is_blank s.now) × (result ≤ length s.now) }
 {
-    let mut i = at;
-    while i < s.len() {
-        if !is_blank(s[i]) {
-            return i;
-        }
-        i += 1;
-    }
-    i
+    s.iter().take_while(|b| is_blank(**b)).count()
 }
 
-fn word_end(s: &[u8], at: usize) -> usize
-    requires { at ≤ length s.now }
-    ensures { (result ≡ at + run is_letter (drop at s.now)) × (result ≤ length s.now) }
+// blanks but for `!`: both chains in `word` leave its goal open, and a closure's clause would be longer than the two.
+fn letters(s: &[u8]) -> usize
+    ensures { (result ≡ prefix_len is_letter s.now) × (result ≤ length s.now) }
 {
-    let mut i = at;
-    while i < s.len() {
-        if is_blank(s[i]) {
-            return i;
-        }
-        i += 1;
-    }
-    i
+    s.iter().take_while(|b| !is_blank(**b)).count()
 }
 
 // The next word from `at` on.
+#[tactic(auto, using(words::proofs::PartLaws::tail_all))]
 pub fn word(s: &[u8], at: usize) -> Span
     requires { at ≤ length s.now }
-    ensures { (result ≡ word_at s.now at) × (result.from ≤ result.to) × (result.to ≤ length s.now) }
+    ensures { (result ≡ word_at s.now at) × (result.to ≤ length s.now) }
 {
-    let from = blanks_end(s, at);
-    let to = word_end(s, from);
+    let from = at + blanks(&s[at..]);
+    let to = from + letters(&s[from..]);
     Span { from, to }
 }
 
 // 1 where there is a word.
+#[tactic(auto, unfolding(crate::specs::Lines::one_if, words::specs::Choice::when))]
 fn one_if(w: Span) -> usize
     ensures { (result ≡ one_if w) × (result ≤ 1) }
 {
-    if w.from < w.to { 1 } else { 0 }
+    usize::from(w.from < w.to)
 }
 
 // A line's first word, the three behind it, and how many there are behind the first; 4 stands for more than three.
@@ -89,7 +64,7 @@ pub struct Words {
 }
 
 pub fn words_in(s: &[u8]) -> Words
-    ensures { (result ≡ words_in s.now) × (result.name.from ≤ result.name.to) × (result.name.to ≤ length s.now) × (result.one.from ≤ result.one.to) × (result.one.to ≤ length s.now) × (result.two.from ≤ result.two.to) × (result.two.to ≤ length s.now) × (result.three.from ≤ result.three.to) × (result.three.to ≤ length s.now) }
+    ensures { (result ≡ words_in s.now) × (result.name.to ≤ length s.now) × (result.one.to ≤ length s.now) × (result.two.to ≤ length s.now) × (result.three.to ≤ length s.now) }
 {
     let name = word(s, 0);
     let one = word(s, name.to);
@@ -107,36 +82,19 @@ pub fn words_in(s: &[u8]) -> Words
 }
 
 // The length of a line without a carriage return at its end.
+#[tactic(auto, using(crate::proofs::LineLaws::end_none, crate::proofs::LineLaws::end_cut, crate::proofs::LineLaws::end_whole))]
 pub fn end_of(s: &[u8]) -> usize
     ensures { (result ≡ end_of s.now) × (result ≤ length s.now) }
 {
-    let n = s.len();
-    if n == 0 {
-        return 0;
+    match s {
+        [.., b'\r'] => s.len() - 1,
+        _ => s.len(),
     }
-    if s[n - 1] == b'\r' {
-        return n - 1;
-    }
-    n
-}
-
-fn said_end(s: &[u8]) -> usize
-    ensures { (result ≡ run is_said s.now) × (result ≤ length s.now) }
-{
-    let mut i = 0;
-    while i < s.len() {
-        if s[i] == b'#' {
-            return i;
-        }
-        i += 1;
-    }
-    i
 }
 
 // The length of what a line says before a comment or its end.
 pub fn said(s: &[u8]) -> usize
     ensures { (result ≡ said_in s.now) × (result ≤ length s.now) }
 {
-    let n = end_of(s);
-    said_end(&s[0..n])
+    s[..end_of(s)].iter().take_while(|b| **b != b'#').count()
 }

@@ -1,96 +1,45 @@
 // The number that a word says.
 ghost use Rattle.std.specs.Prelude.{◌≡◌, ◌≤◌};
-ghost use Rattle.console_text.specs.Numbers.{digit_of, all_digits, number_in, prefixed, number_of};
+ghost use Rattle.console_text.specs.Numbers.{digit_in, number_in, number_of};
 
-#[derive(Clone, Copy)]
-pub enum Number {
-    Value(u32),
-    Bad,
-}
-
-pub(crate) fn digit_of(b: u8) -> u8
-    ensures { (result ≡ digit_of b) × (result ≤ 16) }
+// The value of a digit of a base.
+#[tactic(auto, using(crate::proofs::NumberLaws::digit_decimal, crate::proofs::NumberLaws::digit_upper, crate::proofs::NumberLaws::digit_lower, crate::proofs::NumberLaws::digit_below, crate::proofs::NumberLaws::digit_between, crate::proofs::NumberLaws::digit_before, crate::proofs::NumberLaws::digit_behind, crate::proofs::NumberLaws::digit_some, crate::proofs::NumberLaws::digit_none))]
+pub(crate) fn digit(b: u8, base: u8) -> Option<u8>
+    requires { base ≤ 16 }
+    ensures { result ≡ digit_in base b }
 {
-    if b < b'0' {
-        return 16;
-    }
-    if b <= b'9' {
-        return b - b'0';
-    }
-    if b < b'A' {
-        return 16;
-    }
-    if b <= b'F' {
-        return b - 55;
-    }
-    if b < b'a' {
-        return 16;
-    }
-    if b <= b'f' {
-        return b - 87;
-    }
-    16
+    let d = match b {
+        b'0'..=b'9' => b - b'0',
+        b'A'..=b'F' => b - b'A' + 10,
+        b'a'..=b'f' => b - b'a' + 10,
+        _ => return None,
+    };
+    if d < base { Some(d) } else { None }
 }
 
-// A digit cast here brings its bound along.
-fn wide(d: u8) -> u64
-    requires { d ≤ 16 }
-    ensures { (result ≡ d) × (result ≤ 16) }
-{
-    d as u64
-}
-
-pub(crate) fn all_digits(s: &[u8], base: u8) -> bool
-    ensures { result ≡ all_digits base s.now }
-{
-    let mut i = 0;
-    while i < s.len() {
-        if base <= digit_of(s[i]) {
-            return false;
-        }
-        i += 1;
-    }
-    true
-}
-
-fn number_in(s: &[u8], base: u8, most: u32) -> Number
+#[tactic(auto, using(crate::proofs::NumberLaws::number_none, crate::proofs::NumberLaws::number_some))]
+fn number_in(s: &[u8], base: u8, most: u32) -> Option<u32>
     requires { (1 ≤ base) × (base ≤ 16) }
     ensures { result ≡ number_in base most s.now }
 {
-    if s.len() == 0 {
-        return Number::Bad;
+    if s.is_empty() {
+        return None;
     }
-    let mut v: u64 = 0;
-    let mut i = 0;
-    while i < s.len() {
-        let d = digit_of(s[i]);
-        if base <= d {
-            return Number::Bad;
-        }
-        v = v * wide(base) + wide(d);
-        if (most as u64) < v {
-            return Number::Bad;
-        }
-        i += 1;
+    let mut v: u32 = 0;
+    for &b in s {
+        let d = digit(b, base)?;
+        v = v.checked_mul(base as u32)?.checked_add(d as u32)?;
     }
-    Number::Value(v as u32)
-}
-
-fn prefixed(s: &[u8]) -> bool
-    ensures { result ≡ prefixed s.now }
-{
-    if s.len() < 2 {
-        return false;
-    }
-    (s[0] == b'0') & (s[1] == b'x')
+    if v <= most { Some(v) } else { None }
 }
 
 // A number over `most` does not fit its place.
-pub fn number_of(s: &[u8], most: u32) -> Number
+#[tactic(auto, using(crate::proofs::NumberLaws::number_hex, crate::proofs::NumberLaws::number_decimal))]
+pub fn number_of(s: &[u8], most: u32) -> Option<u32>
     ensures { result ≡ number_of most s.now }
 {
-    if prefixed(s) {
-        return number_in(&s[2..], 16, most);
+    match s.strip_prefix(b"0x") {
+        Some(digits) => number_in(digits, 16, most),
+        None => number_in(s, 10, most),
     }
-    number_in(s, 10, most)
 }

@@ -4,6 +4,7 @@ ghost use Rattle.console_text.specs.Text.{page, put_byte, put};
 ghost use Rattle.console_text.specs.Numbers.{glyph as Numbers·glyph, decimal_text, signed_text};
 ghost use Rattle.console_text.specs.Hex.{hex_text, bytes_text};
 
+#[tactic(auto, unfolding(crate::specs::Text::put_byte, words::specs::Choice::when))]
 pub fn byte(out: &mut [u8], at: usize, b: u8) -> usize
     ensures { page out.new result ≡ put_byte (page out.old at) b }
 {
@@ -14,31 +15,30 @@ pub fn byte(out: &mut [u8], at: usize, b: u8) -> usize
     at
 }
 
+#[tactic(auto, using(crate::proofs::TextLaws::put_more, crate::proofs::TextLaws::put_none))]
 pub fn text(out: &mut [u8], at: usize, s: &[u8]) -> usize
     ensures { page out.new result ≡ put (page out.old at) s.now }
 {
     let mut next = at;
-    let mut i = 0;
-    while i < s.len() {
-        next = byte(out, next, s[i]);
-        i += 1;
+    for &b in s {
+        next = byte(out, next, b);
     }
     next
 }
 
 // n copies of a byte.
+#[tactic(auto, using(crate::proofs::TextLaws::put_copy, crate::proofs::TextLaws::put_none))]
 pub fn copies(out: &mut [u8], at: usize, n: usize, b: u8) -> usize
     ensures { page out.new result ≡ put (page out.old at) (replicate n b) }
 {
     let mut next = at;
-    let mut left = n;
-    while left > 0 {
+    for _ in 0..n {
         next = byte(out, next, b);
-        left -= 1;
     }
     next
 }
 
+#[tactic(auto, unfolding(crate::specs::Numbers::glyph, words::specs::Choice::when))]
 fn glyph(d: u8) -> u8
     requires { d < 16 }
     ensures { result ≡ Numbers·glyph d }
@@ -47,30 +47,30 @@ fn glyph(d: u8) -> u8
 }
 
 // Two hexadecimal digits a byte.
+#[tactic(auto, using(crate::proofs::HexLaws::hex_more, crate::proofs::HexLaws::hex_none))]
 pub fn hex(out: &mut [u8], at: usize, bytes: &[u8]) -> usize
     ensures { page out.new result ≡ put (page out.old at) (hex_text bytes.now) }
 {
     let mut next = at;
-    let mut i = 0;
-    while i < bytes.len() {
-        let b = bytes[i];
+    for &b in bytes {
         next = byte(out, next, glyph(b / 16));
         next = byte(out, next, glyph(b % 16));
-        i += 1;
     }
     next
 }
 
 // Bytes as a word of a line.
+#[tactic(auto, unfolding(crate::specs::Hex::bytes_text, words::specs::Choice::when))]
 pub fn bytes(out: &mut [u8], at: usize, s: &[u8]) -> usize
     ensures { page out.new result ≡ put (page out.old at) (bytes_text s.now) }
 {
-    if s.len() == 0 {
+    if s.is_empty() {
         return text(out, at, b"-");
     }
     hex(out, at, s)
 }
 
+#[tactic(auto, using(crate::proofs::NumberLaws::decimal_small, crate::proofs::NumberLaws::decimal_more, crate::proofs::TextLaws::put_append, crate::proofs::TextLaws::put_one_lem))]
 pub fn decimal(out: &mut [u8], at: usize, n: u64) -> usize
     ensures { page out.new result ≡ put (page out.old at) (decimal_text n) }
 {
@@ -83,12 +83,10 @@ pub fn decimal(out: &mut [u8], at: usize, n: u64) -> usize
 }
 
 // In decimal, `-` before a negative one.
+#[tactic(auto, using(crate::proofs::SignedLaws::signed_below, crate::proofs::SignedLaws::signed_above))]
 pub fn signed(out: &mut [u8], at: usize, n: i32) -> usize
     ensures { page out.new result ≡ put (page out.old at) (signed_text n) }
 {
-    if n < 0 {
-        let next = text(out, at, b"-");
-        return decimal(out, next, (0 - n as i64) as u64);
-    }
-    decimal(out, at, n as u64)
+    let next = if n < 0 { text(out, at, b"-") } else { at };
+    decimal(out, next, u64::from(n.unsigned_abs()))
 }

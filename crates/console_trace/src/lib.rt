@@ -11,25 +11,24 @@ mod transfers;
 pub use asked::begun;
 pub use transfers::go_on;
 
-// How far it has come: the state; how many device bytes are used, and how many places of the room are left; the number of the service under
-// way, its transfers, how many it may make and which meets EOP; how many services may still begin; whether there is more.
+// What is still to come: the state; how many device bytes are used, and how many places of the room are left; the number of the service under
+// way, its transfers, how many it may make and which meets EOP; how many services may still begin. Where nothing is to come there is none.
 #[derive(Clone, Copy)]
 pub struct Course {
-    pub controller: Controller,
-    pub used: usize,
-    pub left: usize,
-    pub service: u64,
-    pub transfers: u64,
-    pub most: u64,
-    pub eop: u64,
-    pub services: u32,
-    pub is_more: bool,
+    controller: Controller,
+    used: usize,
+    left: usize,
+    service: u64,
+    transfers: u64,
+    most: u64,
+    eop: u64,
+    services: u32,
 }
 
-// How far it has come, the place behind its lines and that behind its records.
+// What is still to come, the place behind the lines and that behind the records.
 #[derive(Clone, Copy)]
 pub struct Traced {
-    pub course: Course,
+    pub course: Option<Course>,
     pub at: usize,
     pub filled: usize,
 }

@@ -1,40 +1,29 @@
 // The line of one transfer.
-use console_records::{flags_said, transfer_said};
-use console_text::page::{decimal, text};
-use logs::Record;
-
-fn states_said(states: u64, has_s1: bool, out: &mut [u8], at: usize) -> usize {
-    let next = text(out, at, b", ");
-    let next = decimal(out, next, states);
-    let next = text(out, next, b" states");
-    if has_s1 {
-        return text(out, next, b" with S1");
-    }
-    next
-}
-
-fn end_said(flags: u8, out: &mut [u8], at: usize) -> usize {
-    if flags == 0 {
-        return text(out, at, b"\n");
-    }
-    let next = text(out, at, b",");
-    let next = flags_said(flags, out, next);
-    text(out, next, b"\n")
-}
+use crate::transfers::Made;
+use console_records::{Flags, Transfer};
+use std::fmt;
+use std::fmt::{Display, Formatter, Write};
 
 // It begins with the sign of a comment: answers with such lines are a script's, too.
-pub(crate) fn line_said(
-    service: u64,
-    r: Record,
-    states: u64,
-    has_s1: bool,
-    out: &mut [u8],
-    at: usize,
-) -> usize {
-    let next = text(out, at, b"# service ");
-    let next = decimal(out, next, service);
-    let next = text(out, next, b" ");
-    let next = transfer_said(r, out, next);
-    let next = states_said(states, has_s1, out, next);
-    end_said(r.flags, out, next)
+impl Display for Made {
+    fn fmt<W: Write>(&self, f: &mut Formatter<W>) -> fmt::Result {
+        let Made {
+            service,
+            record,
+            states,
+            has_s1,
+        } = *self;
+        write!(
+            f,
+            "# service {service} {}, {states} states",
+            Transfer(record)
+        )?;
+        if has_s1 {
+            f.write_str(" with S1")?;
+        }
+        if record.flags != 0 {
+            write!(f, ",{}", Flags(record.flags))?;
+        }
+        f.write_str("\n")
+    }
 }

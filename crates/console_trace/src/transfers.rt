@@ -1,192 +1,105 @@
 // Transfer by transfer: each is the service's own run with limit 1, its record the one that the rules make next.
-ghost use Rattle.std.specs.Prelude.{◌≤◌, length};
-
-use crate::lines::line_said;
 use crate::{Course, Traced};
-use am9517::Answer;
-use am9517_service::{Ran, Reason, RunAnswer, run};
+use am9517_service::{Ran, Reason, run};
 use console_text::page::text;
 use logs::{Record, bytes_of, next_record};
-use std::num::wrapping_add_u64;
+use std::fmt::InlineText;
 use words::bytes::high_byte;
 
 // So many transfers are traced at a time, for their lines wait on a page.
 const CHUNK: usize = 512;
 
-// Another memory is refused.
 const MEMORY: usize = 65536;
 
-// One transfer, if one was made: its record, its states, and whether S1 is among them.
+// No line has more bytes.
+type Line = InlineText<256>;
+
+// One transfer: the number of its service, its record, its states, and whether S1 is among them.
 #[derive(Clone, Copy)]
-struct Made {
-    course: Course,
-    record: Record,
-    states: u64,
-    has_s1: bool,
-    is_made: bool,
+pub(crate) struct Made {
+    pub service: u64,
+    pub record: Record,
+    pub states: u64,
+    pub has_s1: bool,
 }
 
-fn over(course: Course) -> Course {
-    let mut next = course;
-    next.is_more = false;
-    next
-}
-
-// A service is under way, or, in a round, one is begun; else it is over.
-fn opened(course: Course) -> Course {
-    let c = course.controller;
-    if c.in_service != 0 {
-        return course;
-    }
-    if course.services == 0 {
-        return over(course);
-    }
-    let outcome = c.grant();
-    let granted = outcome.controller;
-    let answer = outcome.answer;
-    match answer {
-        Answer::Value(_) => {
-            let mut next = course;
-            next.controller = granted;
-            next.service = wrapping_add_u64(course.service, 1);
-            next.services = course.services - 1;
-            next.transfers = 0;
-            next
+impl Course {
+    // A service is under way, or, in a round, one is begun.
+    fn opened(self) -> Option<Course> {
+        if self.controller.in_service != 0 {
+            return Some(self);
         }
-        Answer::Done => over(course),
-        Answer::Refused(_) => over(course),
+        let services = self.services.checked_sub(1)?;
+        let granted = self.controller.grant();
+        match granted.answer {
+            Ok(Some(_)) => Some(Course {
+                controller: granted.controller,
+                service: self.service.wrapping_add(1),
+                services,
+                transfers: 0,
+                ..self
+            }),
+            Ok(None) | Err(_) => None,
+        }
+    }
+
+    // Behind a run of one transfer.
+    fn behind(self, ran: Ran) -> Option<Course> {
+        let next = Course {
+            controller: ran.controller,
+            used: self.used.saturating_add(ran.counts.used),
+            left: self.left.saturating_sub(ran.counts.written),
+            transfers: self.transfers.wrapping_add(1),
+            ..self
+        };
+        let is_more = match ran.answer {
+            Ok(Reason::Ended) => 0 < next.services,
+            _ => next.transfers < next.most,
+        };
+        is_more.then_some(next)
+    }
+
+    // A transfer and what comes behind it, or nothing, where none is made.
+    fn step(self, memory: &mut [u8], device: &[u8]) -> Option<(Made, Option<Course>)> {
+        let open = self.opened()?;
+        let c = open.controller;
+        let device = device.get(open.used..).unwrap_or_default();
+        let byte = device.first().copied().unwrap_or_default();
+        let meets = open.transfers.wrapping_add(1) == open.eop;
+        let record = next_record(c, memory, byte, meets);
+        let is_latched = (c.latch_full != 0) & (c.latch == high_byte(record.address));
+        let mut room = [0u8; 1];
+        let places = open.left.min(1);
+        let ran = run(c, memory, device, &mut room[..places], 1, u64::from(meets));
+        if ran.counts.transfers == 0 {
+            return None;
+        }
+        let made = Made {
+            service: open.service,
+            record,
+            states: ran.counts.states,
+            has_s1: (record.kind != 3) & !is_latched,
+        };
+        Some((made, open.behind(ran)))
     }
 }
 
-fn is_ended(answer: RunAnswer) -> bool {
-    match answer {
-        RunAnswer::Stopped(why) => match why {
-            Reason::Ended => true,
-            Reason::Dropped => false,
-            Reason::Cascade => false,
-            Reason::Limit => false,
-            Reason::Short => false,
-        },
-        RunAnswer::Refused(_) => false,
-    }
+// The transfers of what is still to come, on this memory and out of these device bytes.
+#[derive(Drop)]
+struct Transfers<'a> {
+    course: Option<Course>,
+    memory: &'a mut [u8],
+    device: &'a [u8],
 }
 
-// Behind a run of one transfer.
-fn behind(course: Course, ran: Ran) -> Course {
-    let controller = ran.controller;
-    let answer = ran.answer;
-    let mut next = course;
-    next.controller = controller;
-    next.used = if course.used < usize::MAX - ran.counts.used {
-        course.used + ran.counts.used
-    } else {
-        course.used
-    };
-    if ran.counts.written <= course.left {
-        next.left = course.left - ran.counts.written;
-    }
-    next.transfers = wrapping_add_u64(course.transfers, 1);
-    next.is_more = if is_ended(answer) {
-        0 < course.services
-    } else {
-        next.transfers < course.most
-    };
-    if ran.counts.transfers == 0 {
-        next.is_more = false;
-    }
-    next
-}
+impl Iterator for Transfers<'_> {
+    type Item = Made;
 
-// Where the device bytes that are left begin.
-fn left_of(device: &[u8], used: usize) -> usize
-    ensures { result ≤ length device.now }
-{
-    if device.len() < used {
-        return device.len();
+    fn next(&mut self) -> Option<Made> {
+        let (made, behind) = self.course.take()?.step(self.memory, self.device)?;
+        self.course = behind;
+        Some(made)
     }
-    used
-}
-
-fn first_of(bytes: &[u8]) -> u8 {
-    if bytes.len() == 0 {
-        return 0;
-    }
-    bytes[0]
-}
-
-fn one_if(is_so: bool) -> u64 {
-    if is_so {
-        return 1;
-    }
-    0
-}
-
-// The run of one transfer that finds these device bytes, and so many places of room.
-fn run_one(course: Course, memory: &mut [u8], device: &[u8], meets: bool) -> Ran {
-    let c = course.controller;
-    let eop = one_if(meets);
-    let mut room = [0u8; 1];
-    if course.left == 0 {
-        return run(c, memory, device, &mut room[0..0], 1, eop);
-    }
-    run(c, memory, device, &mut room[0..1], 1, eop)
-}
-
-fn step(course: Course, memory: &mut [u8], device: &[u8]) -> Made {
-    let c = course.controller;
-    let meets = wrapping_add_u64(course.transfers, 1) == course.eop;
-    let record = next_record(c, memory, first_of(device), meets);
-    let has_s1 = (record.kind != 3)
-        & ((c.latch_full == 0) | (c.latch != high_byte(record.address)));
-    let ran = run_one(course, memory, device, meets);
-    Made {
-        course: behind(course, ran),
-        record,
-        states: ran.counts.states,
-        has_s1,
-        is_made: ran.counts.transfers != 0,
-    }
-}
-
-// The record and the line of one transfer.
-fn told(now: Traced, made: Made, is_on: bool, records: &mut [u8], out: &mut [u8]) -> Traced {
-    let course = made.course;
-    let record = made.record;
-    let mut next = now;
-    next.course = course;
-    if !made.is_made {
-        return next;
-    }
-    next.filled = text(records, now.filled, &bytes_of(record));
-    if is_on {
-        let service = now.course.service;
-        next.at = line_said(service, record, made.states, made.has_s1, out, now.at);
-    }
-    next
-}
-
-// One transfer more, or it is over.
-fn one_more(
-    now: Traced,
-    is_on: bool,
-    copy: &mut [u8],
-    device: &[u8],
-    records: &mut [u8],
-    out: &mut [u8],
-) -> Traced {
-    let open = opened(now.course);
-    let mut next = now;
-    next.course = open;
-    if !open.is_more {
-        return next;
-    }
-    if copy.len() < MEMORY {
-        next.course = over(open);
-        return next;
-    }
-    let from = left_of(device, open.used);
-    let made = step(open, &mut copy[0..MEMORY], &device[from..]);
-    told(next, made, is_on, records, out)
 }
 
 // Some transfers more, on the memory at the front of `copy`; their records stand at the front of `records`, their lines, if wanted, on `out` from
@@ -200,18 +113,22 @@ pub fn go_on(
     out: &mut [u8; 524288],
     at: usize,
 ) -> Traced {
-    let mut now = Traced {
-        course,
-        at,
-        filled: 0,
+    let mut transfers = Transfers {
+        course: Some(course),
+        memory: &mut copy[..MEMORY],
+        device,
     };
-    let mut turns = CHUNK;
-    while turns > 0 {
-        turns -= 1;
-        now = one_more(now, is_on, copy, device, records, out);
-        if !now.course.is_more {
-            return now;
+    let mut at = at;
+    let mut filled = 0;
+    for made in transfers.by_ref().take(CHUNK) {
+        filled = text(records, filled, &bytes_of(made.record));
+        if is_on {
+            at = text(out, at, Line::of(made).as_str().as_bytes());
         }
     }
-    now
+    Traced {
+        course: transfers.course,
+        at,
+        filled,
+    }
 }

@@ -1,232 +1,161 @@
 // Answers held against those of a file.
-ghost use Rattle.std.specs.Prelude.{◌≤◌, length};
-
-use crate::host::Host;
-use console_files::{say, say_failed, say_number};
-use console_text::page::{decimal, text};
-use std::io::Read;
+use crate::part::Part;
+use console_files::{Page, say, say_failed};
+use std::fs::File;
+use std::io::Print;
 use std::num::wrapping_add_u64;
 
 // No more of a line than this is shown before and behind the place where it differs.
 const SHOWN: usize = 200;
 
-// Of the answers expected: what of the part read of their file is still to come, the number of its line, and whether it can't be read.
+// The file can't be read, which was said.
 #[derive(Clone, Copy)]
-pub struct Answers {
-    pub from: usize,
-    pub filled: usize,
-    pub number: u64,
-    pub is_failed: bool,
+struct Unread;
+
+// The file of the answers expected, under its name; what of it is still to come, the number of its line, and whether it can't be read.
+#[derive(Drop)]
+pub struct Answers<'a> {
+    rt: HostRuntime,
+    file: File,
+    name: &'a [u8],
+    part: Part,
+    number: u64,
+    is_failed: bool,
 }
 
-// How many bytes of an answer are as expected, and whether all are.
-#[derive(Clone, Copy)]
-pub(crate) struct Compared {
-    pub answers: Answers,
-    pub same: usize,
-    pub is_same: bool,
-}
-
-// Reads the next part: how many bytes, none without a file; nothing where it can't be read, which is said.
-fn next_part(host: &Host, part: &mut [u8; 65536]) -> Option<usize> {
-    let Some(file) = &host.answers else {
-        return Some(0);
-    };
-    let mut input = file;
-    match input.read(part) {
-        Ok(n) => Some(n),
-        Err(error) => {
-            say_failed(host.rt, b"rack: the answers expected", error);
-            None
+impl<'a> Answers<'a> {
+    pub fn new(rt: HostRuntime, file: File, name: &'a [u8]) -> Answers<'a> {
+        Answers {
+            rt,
+            file,
+            name,
+            part: Part::new(),
+            number: 1,
+            is_failed: false,
         }
     }
-}
 
-// There is a byte to come, unless the file has ended.
-fn ready(host: &Host, answers: Answers, part: &mut [u8; 65536]) -> Answers {
-    if answers.from < answers.filled {
-        return answers;
-    }
-    let got = next_part(host, part);
-    let mut next = answers;
-    next.is_failed = answers.is_failed | got.is_none();
-    next.from = 0;
-    next.filled = got.unwrap_or(0);
-    next
-}
-
-// The next byte; 256 at the file's end, 257 where it can't be read.
-fn next_byte(answers: Answers, part: &[u8; 65536]) -> u16 {
-    let from = answers.from;
-    if answers.is_failed {
-        return 257;
-    }
-    if answers.filled <= from {
-        return 256;
-    }
-    if 65536 <= from {
-        return 256;
-    }
-    wide(part[from])
-}
-
-fn wide(b: u8) -> u16 {
-    b as u16
-}
-
-fn behind(answers: Answers, b: u8) -> Answers {
-    let mut next = answers;
-    if next.from < next.filled {
-        next.from += 1;
-    }
-    if b == b'\n' {
-        next.number = wrapping_add_u64(next.number, 1);
-    }
-    next
-}
-
-// Comments stand in lines of their own, as those of traces do: they are no answers.
-fn behind_comments(host: &Host, answers: Answers, part: &mut [u8; 65536]) -> Answers {
-    let mut now = ready(host, answers, part);
-    let mut is_comment = next_byte(now, part) == wide(b'#');
-    for _ in 0..u64::MAX {
-        let b = next_byte(now, part);
-        if !is_comment {
-            return now;
+    // There is a byte to come, unless the file has ended.
+    fn fill(&mut self) {
+        if !self.part.rest().is_empty() {
+            return;
         }
-        if 255 < b {
-            return now;
-        }
-        now = ready(host, behind(now, b as u8), part);
-        if b == wide(b'\n') {
-            is_comment = next_byte(now, part) == wide(b'#');
+        let mut input = &self.file;
+        if let Err(error) = self.part.read(&mut input) {
+            say_failed(self.rt, b"rack: the answers expected", error);
+            self.is_failed = true;
         }
     }
-    now
-}
 
-pub(crate) fn compare(
-    host: &Host,
-    answers: Answers,
-    part: &mut [u8; 65536],
-    answer: &[u8],
-) -> Compared {
-    let mut now = behind_comments(host, answers, part);
-    let mut i = 0;
-    while i < answer.len() {
-        now = ready(host, now, part);
-        let b = answer[i];
-        if next_byte(now, part) != wide(b) {
-            return Compared {
-                answers: now,
-                same: i,
-                is_same: false,
+    // The next byte, none at the file's end.
+    fn next_byte(&self) -> Result<Option<u8>, Unread> {
+        if self.is_failed {
+            return Err(Unread);
+        }
+        Ok(self.part.rest().first().copied())
+    }
+
+    fn is_next(&self, b: u8) -> bool {
+        matches!(self.next_byte(), Ok(Some(next)) if next == b)
+    }
+
+    fn take(&mut self, b: u8) {
+        self.part.take(1);
+        if b == b'\n' {
+            self.number = wrapping_add_u64(self.number, 1);
+        }
+    }
+
+    // Comments stand in lines of their own, as those of traces do: they are no answers. The bytes are counted, up to a number that no file has.
+    fn skip_comments(&mut self) {
+        self.fill();
+        let mut is_comment = self.is_next(b'#');
+        for _ in 0..u64::MAX {
+            let Ok(Some(b)) = self.next_byte() else {
+                return;
             };
+            if !is_comment {
+                return;
+            }
+            self.take(b);
+            self.fill();
+            if b == b'\n' {
+                is_comment = self.is_next(b'#');
+            }
         }
-        now = behind(now, b);
-        i += 1;
     }
-    Compared {
-        answers: now,
-        same: i,
-        is_same: true,
-    }
-}
 
-// Whether the file has no more answers.
-pub(crate) fn is_ended(host: &Host, answers: Answers, part: &mut [u8; 65536]) -> bool {
-    let now = behind_comments(host, answers, part);
-    next_byte(now, part) == 256
-}
-
-// Where the line begins in which this place lies, or, in a long line, the part of it that is shown.
-fn shown_from(answer: &[u8], place: usize) -> usize
-    requires { place ≤ length answer.now }
-    ensures { result ≤ place }
-{
-    let mut i = place;
-    let mut left = SHOWN;
-    while i > 0 {
-        if left == 0 {
-            return i;
+    // Whether the answer is as expected, or else what of it is, and what is behind that.
+    pub(crate) fn compare<'b>(&mut self, answer: &'b [u8]) -> Result<(), (&'b [u8], &'b [u8])> {
+        self.skip_comments();
+        for (i, &b) in answer.iter().enumerate() {
+            self.fill();
+            if !self.is_next(b) {
+                return Err(answer.split_at(i));
+            }
+            self.take(b);
         }
-        if answer[i - 1] == b'\n' {
-            return i;
+        Ok(())
+    }
+
+    // Which line of the file has another answer, and both lines, one below the other.
+    pub(crate) fn note_difference<const N: usize>(
+        &self,
+        before: &[u8],
+        behind: &[u8],
+        notes: &mut Page<N>,
+    ) {
+        let expected = self.part.rest();
+        notes.text(b"not the answer in line ");
+        notes.decimal(self.number);
+        notes.text(b" of ");
+        notes.text(self.name);
+        notes.text(b"\n    expected: ");
+        notes.text(line_before(before));
+        notes.text(if expected.is_empty() {
+            b"(nothing more)"
+        } else {
+            line_behind(expected)
+        });
+        notes.text(b"\n    answered: ");
+        notes.text(line_before(before));
+        notes.text(line_behind(behind));
+        notes.text(b"\n");
+    }
+
+    // The script has ended: whether so have the answers expected. Comments count among what goes on.
+    pub(crate) fn are_over(&mut self) -> bool {
+        let number = self.number;
+        self.skip_comments();
+        let rt = self.rt;
+        let is_over = matches!(self.next_byte(), Ok(None));
+        if is_over {
+            say(rt, b"rack: all answers as in ");
+            say(rt, self.name);
+        } else {
+            say(rt, b"rack: the script ends, and ");
+            say(rt, self.name);
+            let _ = eprint!(rt; " goes on in line {number}");
         }
-        i -= 1;
-        left -= 1;
+        say(rt, b"\n");
+        is_over
     }
-    0
 }
 
-// Where the line ends in which this place lies, or the part of it that is shown.
-fn shown_to(bytes: &[u8], place: usize) -> usize
-    requires { place ≤ length bytes.now }
-    ensures { (place ≤ result) × (result ≤ length bytes.now) }
-{
-    let mut i = place;
-    let mut left = SHOWN;
-    while i < bytes.len() {
-        if left == 0 {
-            return i;
-        }
-        if bytes[i] == b'\n' {
-            return i;
-        }
-        i += 1;
-        left -= 1;
+// The last line, or, of a long one, the part of it that is shown.
+fn line_before(bytes: &[u8]) -> &[u8] {
+    let near = &bytes[bytes.len().saturating_sub(SHOWN)..];
+    match near.iter().rposition(|&b| b == b'\n') {
+        Some(i) => &near[i + 1..],
+        None => near,
     }
-    i
 }
 
-// What the file has from here to its line's end.
-fn rest(out: &mut [u8], at: usize, part: &[u8], from: usize, filled: usize) -> usize {
-    if filled <= from {
-        return text(out, at, b"(nothing more)");
+// The first line, or the part of it that is shown.
+fn line_behind(bytes: &[u8]) -> &[u8] {
+    let near = &bytes[..bytes.len().min(SHOWN)];
+    match near.iter().position(|&b| b == b'\n') {
+        Some(i) => &near[..i],
+        None => near,
     }
-    if part.len() < filled {
-        return at;
-    }
-    let end = shown_to(&part[0..filled], from);
-    text(out, at, &part[from..end])
-}
-
-// Both lines, one below the other.
-pub(crate) fn say_difference(
-    out: &mut [u8],
-    at: usize,
-    answers: Answers,
-    part: &[u8; 65536],
-    answer: &[u8],
-    place: usize,
-) -> usize {
-    if answer.len() < place {
-        return at;
-    }
-    let from = shown_from(answer, place);
-    let to = shown_to(answer, place);
-    let next = text(out, at, b"    expected: ");
-    let next = text(out, next, &answer[from..place]);
-    let next = rest(out, next, part, answers.from, answers.filled);
-    let next = text(out, next, b"\n    answered: ");
-    let next = text(out, next, &answer[from..to]);
-    text(out, next, b"\n")
-}
-
-// The words before them: which line of which file.
-pub(crate) fn say_place(out: &mut [u8], at: usize, name: &[u8], number: u64) -> usize {
-    let next = text(out, at, b"not the answer in line ");
-    let next = decimal(out, next, number);
-    let next = text(out, next, b" of ");
-    let next = text(out, next, name);
-    text(out, next, b"\n")
-}
-
-// The script has ended, and there are further answers.
-pub(crate) fn say_more(rt: HostRuntime, name: &[u8], number: u64) {
-    say(rt, b"rack: the script ends, and ");
-    say(rt, name);
-    say(rt, b" goes on in line ");
-    say_number(rt, number);
-    say(rt, b"\n");
 }

@@ -16,7 +16,7 @@ use Rattle.am9517.specs.Refusals.{refusal}
 use Rattle.am9517.specs.Answers.{outcome}
 use Rattle.am9517.specs.declared.Controller.{Controller}
 use Rattle.am9517.specs.declared.Edition.TheVariants.{Am9517A}
-use Rattle.am9517.specs.declared.Answer.{Answer}
+use Rattle.am9517.specs.Answers.{Answer}
 use Rattle.am9517_service.specs.Answers.{Given, run_grounds}
 use Rattle.am9517_service.specs.RoundAnswers.{RoundGiven, closed}
 use Rattle.am9517_sheet.specs.declared.SheetRead.{SheetRead}
@@ -43,11 +43,14 @@ use Rattle.am9517_sheet.proofs.SheetLaws.{number_said, write_done, write_free}
 use Rattle.am9517_sheet.proofs.BodyLaws.{zero_within}
 use Rattle.am9517_sheet.proofs.TripLaws.{written_read_lem}
 use Rattle.demands.proofs.Refusals.{refusal_exactly, Zeros, demand_1, round_refused}
+use Rattle.std.proofs.Common.{Option}
+use Rattle.am9517.specs.Refusals.{numbered}
+use Rattle.demands.proofs.Refusals.{refused_some}
 use Rattle.demands.proofs.Sheets.{full_written, other_refused}
 use Rattle.demands.proofs.Ranges.{kept, read, fresh_valid, not_by_1}
 
 -- a refused operation has no value
-no_value : (n : ℕ) (was next : Controller) (a : Answer) → ¬ (n ≡ 0) → value_of (outcome n was next a).answer ≡ 0
+no_value : (n : ℕ) (was next : Controller) (a : Option ℕ) → ¬ (n ≡ 0) → value_of (outcome n was next a).answer ≡ 0
 unfolding outcome
 no_value n was next a h = when_each (λ (x : Answer). value_of x ≡ 0) (eqb n 0) (λ e. absurd (h (eqb-true _ _ e))) (λ e. refl)
 
@@ -74,7 +77,7 @@ look_refuses s shown =
 run_refuses : (s : Controller) (m d r : List ℕ) (limit eop : ℕ) → CallRefuses (does s (CRun m d r limit eop)) (call_grounds s (CRun m d r limit eop)) (lent_to s (CRun m d r limit eop))
 run_refuses s m d r limit eop =
     by_operation s (Run m d r limit eop) _
-    (λ h. subst (λ (g : Given). Zeros (ran_by (run_call_of g)).beside) (sym (run_refused s m d r limit eop _ refl h)) (also refl (also refl (also refl (also refl (also refl none))))))
+    (λ h. subst (λ (g : Given). Zeros (ran_by (run_call_of g)).beside) (sym (run_refused s m d r limit eop _ (refused_some _ h))) (also refl (also refl (also refl (also refl (also refl none))))))
     (ran_told s m d r limit eop)
 
 round_refuses : (s : Controller) (m d r : List ℕ) (k : ℕ) → CallRefuses (does s (CRound m d r k)) (call_grounds s (CRound m d r k)) (lent_to s (CRound m d r k))
@@ -87,7 +90,7 @@ round_refuses s m d r k =
 judge_number : (n : ℕ) (v : Verdict) → (judge_told_of n v).refusal ≡ judge_refusal_number v
 judge_number n Accepted = refl
 judge_number n (Wrong at error) = refl
-judge_number n (Refused k) = refl
+judge_number n (Refused r) = refl
 
 judge_told : (s : Controller) (m log : List ℕ) → (does s (CJudge m log)).refusal ≡ refusal (run_grounds s m)
 judge_told s m log = judge_number _ (judged_of s m log).judged.verdict ∙ (stated s m log _ _ refl).1
@@ -96,7 +99,7 @@ judge_refuses : (s : Controller) (m log : List ℕ) → CallRefuses (does s (CJu
 judge_refuses s m log =
     let g = judged_of s m log in
     let number = judge_told s m log in
-    let refused : ¬ ((judge_told_of (length log) g.judged.verdict).refusal ≡ 0) → g ≡ judge_given (record { controller = s; verdict = Refused (refusal (run_grounds s m)) }) m = λ h. sym (refused_by s m log _ refl (λ z. h (number ∙ z))) in
+    let refused : ¬ ((judge_told_of (length log) g.judged.verdict).refusal ≡ 0) → g ≡ judge_given (record { controller = s; verdict = Refused (numbered (refusal (run_grounds s m))) }) m = λ h. sym (refused_by s m log _ (refused_some _ (λ z. h (number ∙ z)))) in
     record {
       exactly = λ n h. subst (λ (k : ℕ). (k ≡ n) ↔ First n (run_grounds s m)) (sym number) (refusal_exactly (run_grounds s m) n h);
       stays = λ h. ap (λ (x : JudgeGiven). (judged_by (judge_call_of (length log) x)).leaves) (refused h);
@@ -107,20 +110,20 @@ calls_refuse : (s : Controller) (c : Call) → CallRefuses (does s c) (call_grou
 calls_refuse s CCheck = record { exactly = refusal_exactly (look_grounds s); stays = λ h. refl; only = λ h. also refl none }
 calls_refuse s CEntitled = look_refuses s _
 calls_refuse s CStatus = look_refuses s _
-calls_refuse s (CWrite r x) = by_operation s (Write r x) _ (λ h. also (no_value _ _ _ _ h) none) (number_told _ _ _ _ refl)
-calls_refuse s (CRead r) = by_operation s (Read r) _ (λ h. also (no_value _ _ _ _ h) none) (number_told _ _ _ _ refl)
-calls_refuse s (CPins p) = by_operation s (Pins p) _ (λ h. also (no_value _ _ _ _ h) none) (number_told _ _ _ _ refl)
-calls_refuse s (CWaits n) = by_operation s (Waits n) _ (λ h. also (no_value _ _ _ _ h) none) (number_told _ _ _ _ refl)
-calls_refuse s CReset = by_operation s Reset _ (λ h. also (no_value _ _ _ _ h) none) (number_told _ _ _ _ refl)
-calls_refuse s CGrant = by_operation s Grant _ (λ h. also (no_value _ _ _ _ h) none) (number_told _ _ _ _ refl)
+calls_refuse s (CWrite r x) = by_operation s (Write r x) _ (λ h. also (no_value _ _ _ _ h) none) (number_told _ refl _ _ _)
+calls_refuse s (CRead r) = by_operation s (Read r) _ (λ h. also (no_value _ _ _ _ h) none) (number_told _ refl _ _ _)
+calls_refuse s (CPins p) = by_operation s (Pins p) _ (λ h. also (no_value _ _ _ _ h) none) (number_told _ refl _ _ _)
+calls_refuse s (CWaits n) = by_operation s (Waits n) _ (λ h. also (no_value _ _ _ _ h) none) (number_told _ refl _ _ _)
+calls_refuse s CReset = by_operation s Reset _ (λ h. also (no_value _ _ _ _ h) none) (number_told _ refl _ _ _)
+calls_refuse s CGrant = by_operation s Grant _ (λ h. also (no_value _ _ _ _ h) none) (number_told _ refl _ _ _)
 calls_refuse s (CRun m d r limit eop) = run_refuses s m d r limit eop
 calls_refuse s (CRound m d r k) = round_refuses s m d r k
 calls_refuse s (CJudge m log) = judge_refuses s m log
-calls_refuse s (CSave form bytes) = by_operation s (SheetWriting form bytes) [] (λ h. none) (number_said _)
-calls_refuse s (CLoad form bytes) = by_operation s (SheetReading form bytes) _ (λ h. also refl none) (number_said _)
+calls_refuse s (CSave form bytes) = by_operation s (SheetWriting form bytes) [] (λ h. none) (number_said _ refl)
+calls_refuse s (CLoad form bytes) = by_operation s (SheetReading form bytes) _ (λ h. also refl none) (number_said _ refl)
 
 pub demand_1_of_calls : Demand1OfCalls
-demand_1_of_calls = record { calls = calls_refuse; conversions = λ s to source target. by_operation s (Converting to source target) [] (λ h. none) (number_said _) }
+demand_1_of_calls = record { calls = calls_refuse; conversions = λ s to source target. by_operation s (Converting to source target) [] (λ h. none) (number_said _ refl) }
 
 number : (n : ℕ) → ¬ (suc n ≡ 0)
 number n e = omega arith
@@ -254,12 +257,12 @@ call_small : (s : Controller) (c : Call) → ((form : Form) (bytes : List ℕ) �
 call_small s CCheck f g = refusal_small _ (look_grounds s) refl (also (at_most 1 (omega arith)) none)
 call_small s CEntitled f g = refusal_small _ (look_grounds s) refl (also (at_most 1 (omega arith)) none)
 call_small s CStatus f g = refusal_small _ (look_grounds s) refl (also (at_most 1 (omega arith)) none)
-call_small s (CWrite r x) f g = refusal_small _ (call_grounds s (CWrite r x)) (number_told _ _ _ _ refl) (also (at_most 1 (omega arith)) (also (at_most 2 (omega arith)) (also (at_most 3 (omega arith)) (also (at_most 4 (omega arith)) (also (at_most 5 (omega arith)) none)))))
-call_small s (CRead r) f g = refusal_small _ (call_grounds s (CRead r)) (number_told _ _ _ _ refl) (also (at_most 1 (omega arith)) (also (at_most 2 (omega arith)) (also (at_most 3 (omega arith)) (also (at_most 4 (omega arith)) none))))
-call_small s (CPins p) f g = refusal_small _ (call_grounds s (CPins p)) (number_told _ _ _ _ refl) (also (at_most 1 (omega arith)) (also (at_most 2 (omega arith)) none))
-call_small s (CWaits n) f g = refusal_small _ (call_grounds s (CWaits n)) (number_told _ _ _ _ refl) (also (at_most 1 (omega arith)) (also (at_most 3 (omega arith)) none))
-call_small s CReset f g = refusal_small _ (call_grounds s CReset) (number_told _ _ _ _ refl) (also (at_most 1 (omega arith)) none)
-call_small s CGrant f g = refusal_small _ (call_grounds s CGrant) (number_told _ _ _ _ refl) (also (at_most 1 (omega arith)) (also (at_most 3 (omega arith)) (also (at_most 6 (omega arith)) none)))
+call_small s (CWrite r x) f g = refusal_small _ (call_grounds s (CWrite r x)) (number_told _ refl _ _ _) (also (at_most 1 (omega arith)) (also (at_most 2 (omega arith)) (also (at_most 3 (omega arith)) (also (at_most 4 (omega arith)) (also (at_most 5 (omega arith)) none)))))
+call_small s (CRead r) f g = refusal_small _ (call_grounds s (CRead r)) (number_told _ refl _ _ _) (also (at_most 1 (omega arith)) (also (at_most 2 (omega arith)) (also (at_most 3 (omega arith)) (also (at_most 4 (omega arith)) none))))
+call_small s (CPins p) f g = refusal_small _ (call_grounds s (CPins p)) (number_told _ refl _ _ _) (also (at_most 1 (omega arith)) (also (at_most 2 (omega arith)) none))
+call_small s (CWaits n) f g = refusal_small _ (call_grounds s (CWaits n)) (number_told _ refl _ _ _) (also (at_most 1 (omega arith)) (also (at_most 3 (omega arith)) none))
+call_small s CReset f g = refusal_small _ (call_grounds s CReset) (number_told _ refl _ _ _) (also (at_most 1 (omega arith)) none)
+call_small s CGrant f g = refusal_small _ (call_grounds s CGrant) (number_told _ refl _ _ _) (also (at_most 1 (omega arith)) (also (at_most 3 (omega arith)) (also (at_most 6 (omega arith)) none)))
 call_small s (CRun m d r limit eop) f g = refusal_small _ (call_grounds s (CRun m d r limit eop)) (ran_told s m d r limit eop) (run_small s m)
 call_small s (CJudge m log) f g = refusal_small _ (run_grounds s m) (judge_told s m log) (run_small s m)
 call_small s (CRound m d r k) f g = refusal_small _ (call_grounds s (CRound m d r k)) (round_told s m d r k) (also (at_most 1 (omega arith)) (also (at_most 2 (omega arith)) (also (at_most 7 (omega arith)) (also (at_most 3 (omega arith)) none))))
@@ -272,7 +275,7 @@ load_never_1 s form bytes = not_by_1 _ (SheetReading form bytes) (fresh_valid Am
 saved_and_loaded : (form : Form) (s t : Controller) (bytes : List ℕ) → length s.channels ≡ 4 → (does s (CSave form bytes)).refusal ≡ 0
     → does t (CLoad form (does s (CSave form bytes)).leaves.slice) ≡ record { refusal = 0; beside = 0 ∷ []; leaves = scene s [] [] [] }
 saved_and_loaded form s t bytes four free =
-    ap (λ (x : SheetRead). left_by (load_of x)) (written_read_lem form s t bytes four (ap (λ (w : Stored). w.answer) (write_done form s bytes (sym (number_said _) ∙ free))))
+    ap (λ (x : SheetRead). left_by (load_of x)) (written_read_lem form s t bytes four (ap (λ (w : Stored). w.answer) (write_done form s bytes (sym (number_said _ refl) ∙ free))))
 
 fresh_in : (byte : ℕ) → valid (fresh byte) ≡ leb byte 1
 unfolding ◌and◌ mode_valid modes_valid fields_valid service_valid valid
@@ -288,6 +291,7 @@ fresh_by_edition edition =
     fresh_in _ ∙ when_each (λ (n : ℕ). leb n 1 ≡ leb edition 1) (ltb 255 edition) (λ e. sym (lt-leb edition 1 (omega (arith, ltb-true 255 edition e)))) (λ e. refl)
 
 pub chips_stay_good : ChipsStayGood
+unfolding numbered when
 chips_stay_good =
     record {
       begins = fresh_by_edition;
@@ -299,7 +303,7 @@ chips_stay_good =
       by_one = out_of_ranges;
       load_never_by1 = load_never_1;
       saved2 = λ s bytes v room. ap sheet_refusal_number (full_written s bytes v room);
-      saved = λ s bytes v e w room. number_said _ ∙ write_free One s (length bytes) v room (zero_within s e w);
+      saved = λ s bytes v e w room. number_said _ refl ∙ write_free One s (length bytes) v room (zero_within s e w);
       unsaved = λ s bytes v e room. ap (λ (w : Stored). sheet_refusal_number w.answer) (other_refused s bytes v e room);
       loaded = saved_and_loaded;
     }

@@ -16,8 +16,6 @@ use Rattle.am9517.specs.Serving.{entitled, picked, granted}
 use Rattle.am9517.specs.Refusals.{refusal, grant_grounds}
 use Rattle.am9517.specs.Answers.{outcome}
 use Rattle.am9517.specs.declared.Controller.{Controller}
-use Rattle.am9517.specs.declared.Answer.{Answer}
-use Rattle.am9517.specs.declared.Answer.TheVariants.{Value, Refused}
 use Rattle.am9517_service.specs.World.{Stop, start_of}
 use Rattle.am9517_service.specs.Answers.{Given, stopped, ran_of, run_grounds}
 use Rattle.demands.specs.Lists.{All, also, count}
@@ -34,8 +32,11 @@ use Rattle.am9517_service.proofs.AnswerLaws.{run_refused, run_accepted}
 use Rattle.am9517_service.proofs.KeepLaws.{run_left_lem}
 use Rattle.am9517_sheet.specs.declared.forms.Form.{Form}
 use Rattle.am9517_sheet.proofs.SheetLaws.{number_said}
+use Rattle.demands.proofs.Refusals.{refused_some}
 use Rattle.demands.proofs.Turns.{place, Turns, over, then, turns_fair}
 use Rattle.demands.proofs.Rounds.{round_is_calls_lem, calls_leave}
+use Rattle.std.proofs.Common.{Option, Some, Ok, Err}
+use Rattle.am9517.specs.Refusals.{numbered}
 
 -- what an accepted run has found
 pub open_run : (s : Controller) (m : List ℕ) → refusal (run_grounds s m) ≡ 0 → (valid s ≡ true) × ¬ (s.in_service ≡ 0)
@@ -71,7 +72,7 @@ module _ (s : Controller) where
   after_read_kept r = when_both Kept _ refl (when_both Kept _ refl refl)
 
   -- what the next state keeps where the operation is accepted
-  outcome_kept : (n : ℕ) (t : Controller) (a : Answer) → (n ≡ 0 → Kept t) → Kept (outcome n s t a).controller
+  outcome_kept : (n : ℕ) (t : Controller) (a : Option ℕ) → (n ≡ 0 → Kept t) → Kept (outcome n s t a).controller
   unfolding outcome
   outcome_kept n t a h = when_each Kept (eqb n 0) (λ e. h (eqb-true _ _ e)) (λ e. refl)
 
@@ -86,7 +87,7 @@ module _ (s : Controller) where
           let busy : s.in_service ≡ 1 = omega (arith, (fields s o.0).in_service, o.1) in
           ap (λ (g : Given). g.ran.controller.lowest) (run_accepted s m d r limit eop free)
           ∙ stopped_lowest _ ∙ (run_left_lem limit eop d (start_of s m r) (ranges s o.0) busy).lowest
-      go false e = ap (λ (g : Given). g.ran.controller.lowest) (run_refused s m d r limit eop _ refl (eqb-false _ _ e))
+      go false e = ap (λ (g : Given). g.ran.controller.lowest) (run_refused s m d r limit eop _ (refused_some _ (eqb-false _ _ e)))
 
 -- a call: no round
 abbrev Call : Op → Type 0
@@ -109,7 +110,7 @@ Path s (op ∷ ops) = Call op × Traced s op × Path (next s op) ops
 
 write_kept : (s : Controller) (r b : ℕ) → Traced s (Write r b) → (next s (Write r b)).lowest ≡ s.lowest
 write_kept s r b t =
-    outcome_kept s _ _ _ (λ free. after_write_kept s r b (λ e. t e (number_told _ _ _ _ refl ∙ free)))
+    outcome_kept s _ _ _ (λ free. after_write_kept s r b (λ e. t e (number_told _ refl _ _ _ ∙ free)))
 
 read_kept : (s : Controller) (r : ℕ) → (next s (Read r)).lowest ≡ s.lowest
 read_kept s r = outcome_kept s _ _ _ (λ free. after_read_kept s r)
@@ -121,11 +122,11 @@ waits_kept : (s : Controller) (n : ℕ) → (next s (Waits n)).lowest ≡ s.lowe
 waits_kept s n = outcome_kept s _ _ _ (λ free. refl)
 
 reset_kept : (s : Controller) → Traced s Reset → (next s Reset).lowest ≡ s.lowest
-reset_kept s t = outcome_kept s _ _ _ (λ free. absurd (t tt (number_told _ _ _ _ refl ∙ free)))
+reset_kept s t = outcome_kept s _ _ _ (λ free. absurd (t tt (number_told _ refl _ _ _ ∙ free)))
 
 reading_kept : (s : Controller) (form : Form) (bytes : List ℕ) → Traced s (SheetReading form bytes) → (next s (SheetReading form bytes)).lowest ≡ s.lowest
 reading_kept s form bytes t =
-    when_each (λ (x : Controller). x.lowest ≡ s.lowest) _ (λ e. absurd (t tt (number_said _ ∙ eqb-true _ _ e))) (λ e. refl)
+    when_each (λ (x : Controller). x.lowest ≡ s.lowest) _ (λ e. absurd (t tt (number_said _ refl ∙ eqb-true _ _ e))) (λ e. refl)
 
 -- In the order from the lowest the picked channel stands no later than place k, where an entitled one stands.
 pub record Early (low k n : ℕ) : Type 0 where
@@ -187,7 +188,7 @@ linked_from e l = rw e at l
 -- a call of grant, by whether it is accepted, before what came after it
 grant_linked : (s : Controller) (t : Bool) (later : List Granted) → eqb (refusal (grant_grounds s)) 0 ≡ t
     → Linked (when t (granted s (picked s)) s).lowest later
-    → Linked s.lowest (told s (when t (Value (picked s)) (Refused (refusal (grant_grounds s)))) ++ later)
+    → Linked s.lowest (told s (when t (Ok (Some (picked s))) (Err (numbered (refusal (grant_grounds s))))) ++ later)
 unfolding when
 grant_linked s true later e l =
     let f = fields s (grant_valid s (eqb-true _ _ e)) in
@@ -245,7 +246,7 @@ spelled_path s (op ∷ ops) u =
 
 -- where no grant is made the lowest stays
 grant_stays : (s : Controller) (t : Bool) (later : List Granted) (low : ℕ) → eqb (refusal (grant_grounds s)) 0 ≡ t
-    → told s (when t (Value (picked s)) (Refused (refusal (grant_grounds s)))) ++ later ≡ []
+    → told s (when t (Ok (Some (picked s))) (Err (numbered (refusal (grant_grounds s))))) ++ later ≡ []
     → (later ≡ [] → low ≡ (when t (granted s (picked s)) s).lowest) → low ≡ s.lowest
 unfolding when
 grant_stays s true later low e none h = let z : suc (length later) ≡ 0 = ap length none in absurd (omega arith)

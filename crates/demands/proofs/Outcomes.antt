@@ -1,5 +1,7 @@
 -- Demand 2, one outcome: each contract is an equation of the answer and all that is lent, so two outcomes that meet it are equal.
-use mathlib.Core.Path.{◌≡◌, refl, sym, ap, ◌∙◌}
+use contract.Lifetimes.{lft_at}
+use contract.BorrowLft.{◌⊑◌, ⊑_static}
+use mathlib.Core.Path.{subst, ◌≡◌, refl, sym, ap, ◌∙◌}
 use Prim.Native.Nat.{ℕ}
 use mathlib.Core.List.{List}
 use Rattle.am9517.specs.Serving.{entitled, set_of, status}
@@ -30,14 +32,9 @@ one_outcome_lem =
       high_byte = record { free = λ κs a. tt; single = λ κs a x y l l' p q. (same p q, refl) };
       byte_of = record { free = λ κs a. tt; single = λ κs a x y l l' p q. (same p q, refl) };
       with_byte = record { free = λ κs a. tt; single = λ κs a x y l l' p q. (same p q, refl) };
-      when = record { free = λ κs a. tt; single = λ κs a x y l l' p q. (same p q, refl) };
-      when_word = record { free = λ κs a. tt; single = λ κs a x y l l' p q. (same p q, refl) };
-      when_long = record { free = λ κs a. tt; single = λ κs a x y l l' p q. (same p q, refl) };
-      when_size = record { free = λ κs a. tt; single = λ κs a x y l l' p q. (same p q, refl) };
+      when = λ T laws copies clones dict stays. record { free = λ κs a. subst (λ l. lft_at 1 0 tt κs ⊑ l) (sym stays) (⊑_static (lft_at 1 0 tt κs)); single = λ κs a x y l l' p q. (same p q, refl) };
       step = record { free = λ κs a. tt; single = λ κs a x y l l' p q. (same p q, refl) };
       steps = record { free = λ κs a. tt; single = λ κs a x y l l' p q. (same p q, refl) };
-      least = record { free = λ κs a. tt; single = λ κs a x y l l' p q. (same p q, refl) };
-      lesser = record { free = λ κs a. tt; single = λ κs a x y l l' p q. (same p q, refl) };
       memory_to_memory_bit = record { free = λ κs a. tt; single = λ κs a x y l l' p q. (same p q, refl) };
       address_hold = record { free = λ κs a. tt; single = λ κs a x y l l' p q. (same p q, refl) };
       disabled = record { free = λ κs a. tt; single = λ κs a x y l l' p q. (same p q, refl) };
@@ -54,6 +51,7 @@ one_outcome_lem =
       is_cascade = record { free = λ κs a. tt; single = λ κs a x y l l' p q. (same p q, refl) };
       edition_number = record { free = λ κs a. tt; single = λ κs a x y l l' p q. (same p q, refl) };
       is_intel = record { free = λ κs a. tt; single = λ κs a x y l l' p q. (same p q, refl) };
+      refusal_number = record { free = λ κs a. tt; single = λ κs a x y l l' p q. (same p q, refl) };
       fresh = record { free = λ κs a. tt; single = λ κs a x y l l' p q. (same p q, refl) };
       write = record { free = λ κs a. tt; single = λ κs a x y l l' p q. (same p.0 q.0, refl) };
       read = record { free = λ κs a. tt; single = λ κs a x y l l' p q. (same p.0 q.0, refl) };
@@ -75,6 +73,8 @@ one_outcome_lem =
       run_refusal = record { free = λ κs a. tt; single = λ κs a x y l l' p q. (same p q, refl) };
       run = record { free = λ κs a. tt; single = λ κs a x y l l' p q. (ap (λ (g : Given). g.ran) (same p.0 q.0), ap (λ (g : Given). (tt, (g.memory, (tt, (g.room, (tt, (tt, tt))))))) (same p.0 q.0)) };
       round = record { free = λ κs a. tt; single = λ κs a x y l l' p q. (ap (λ (g : RoundGiven). g.rounded) (same p.0 q.0), ap (λ (g : RoundGiven). (tt, (g.memory, (tt, (g.room, (tt, tt)))))) (same p.0 q.0)) };
+      is_copy = record { free = λ κs a. tt; single = λ κs a x y l l' p q. (same p q, refl) };
+      bits_of = record { free = λ κs a. tt; single = λ κs a x y l l' p q. (same p q, refl) };
       is_ended = record { free = λ κs a. tt; single = λ κs a x y l l' p q. (same p q, refl) };
       rota_of = record { free = λ κs a. tt; single = λ κs a x y l l' p q. (same p q, refl) };
       sheet_write = record { free = λ κs a. tt; single = λ κs a x y l l' p q. (ap (λ (s : Stored). s.answer) (same p.0 q.0), ap (λ (s : Stored). (tt, (tt, (s.bytes, tt)))) (same p.0 q.0)) };
@@ -90,6 +90,7 @@ one_outcome_lem =
       version = record { free = λ κs a. tt; single = λ κs a x y l l' p q. (same p q, refl) };
       wide = record { free = λ κs a. tt; single = λ κs a x y l l' p q. (same p.0 q.0, refl) };
       edition_byte = record { free = λ κs a. tt; single = λ κs a x y l l' p q. (same p q, refl) };
+      requesting_set = record { free = λ κs a. tt; single = λ κs a x y l l' p q. (same p q, refl) };
       told_of = record { free = λ κs a. tt; single = λ κs a x y l l' p q. (same p q, refl) };
       sheet_number = record { free = λ κs a. tt; single = λ κs a x y l l' p q. (same p q, refl) };
       round_pair = record { free = λ κs a. tt; single = λ κs a x y l l' p q. (same p q, refl) };

@@ -17,7 +17,7 @@ use Rattle.am9517.specs.Answers.{outcome}
 use Rattle.am9517.specs.declared.Controller.{Controller}
 use Rattle.am9517.specs.declared.Edition.{Edition}
 use Rattle.am9517.specs.declared.Edition.TheVariants.{Am9517A, Intel8237A}
-use Rattle.am9517.specs.declared.Answer.{Answer}
+use Rattle.std.proofs.Common.{Option}
 use Rattle.am9517_service.specs.World.{Stop, start_of}
 use Rattle.am9517_service.specs.Answers.{Given, stopped, run_grounds}
 use Rattle.am9517_sheet.specs.declared.forms.Form.{Form}
@@ -35,7 +35,7 @@ use Rattle.am9517_service.proofs.KeepLaws.{run_left_lem}
 use Rattle.am9517_service.proofs.GrantLaws.{picked_below}
 use Rattle.am9517_sheet.proofs.SheetLaws.{number_said, read_valid}
 use Rattle.demands.proofs.AccessLaws.{cleared_ranges, write_ranges, read_ranges, pins_ranges, waits_ranges}
-use Rattle.demands.proofs.Refusals.{demand_1}
+use Rattle.demands.proofs.Refusals.{refused_some, demand_1}
 use Rattle.demands.proofs.Fairness.{open_run}
 use Rattle.demands.proofs.Rounds.{round_is_calls_lem}
 
@@ -43,7 +43,7 @@ abbrev Valid : Controller → Type 0
 Valid t = valid t ≡ true
 
 module _ (s : Controller) (v : valid s ≡ true) where
-  outcome_valid : (n : ℕ) (t : Controller) (a : Answer) → (n ≡ 0 → Ranges t) → Valid (outcome n s t a).controller
+  outcome_valid : (n : ℕ) (t : Controller) (a : Option ℕ) → (n ≡ 0 → Ranges t) → Valid (outcome n s t a).controller
   unfolding outcome
   outcome_valid n t a h = when_each Valid (eqb n 0) (λ e. of_ranges t (h (eqb-true _ _ e))) (λ e. v)
 
@@ -66,7 +66,7 @@ module _ (s : Controller) (v : valid s ≡ true) where
           let free = eqb-true _ _ e in
           let busy : s.in_service ≡ 1 = omega (arith, (fields s v).in_service, (open_run s m free).1) in
           subst (λ (g : Given). Valid g.ran.controller) (sym (run_accepted s m d r limit eop free)) (stopped_valid _ (run_left_lem limit eop d (start_of s m r) (ranges s v) busy).ranges)
-      go false e = subst (λ (g : Given). Valid g.ran.controller) (sym (run_refused s m d r limit eop _ refl (eqb-false _ _ e))) v
+      go false e = subst (λ (g : Given). Valid g.ran.controller) (sym (run_refused s m d r limit eop _ (refused_some _ (eqb-false _ _ e)))) v
 
 -- a round's calls
 calls_valid : (left : ℕ) (s t : Controller) (m d r : List ℕ) → s ≡ t → valid s ≡ true → Valid (after_all s (calls_from left t m d r))
@@ -94,7 +94,7 @@ kept s (Converting to source out) v = v
 
 pub read : (s : Controller) (form : Form) (bytes : List ℕ) → said s (SheetReading form bytes) ≡ 0 → valid (next s (SheetReading form bytes)) ≡ true
 read s form bytes free =
-    let e = sym (number_said _) ∙ free in
+    let e = sym (number_said _ refl) ∙ free in
     when_each Valid _ (λ z. read_valid form bytes e) (λ z. absurd (eqb-false _ _ z e))
 
 kept_all : (s : Controller) (ops : List Op) → valid s ≡ true → valid (after_all s ops) ≡ true

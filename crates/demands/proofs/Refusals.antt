@@ -7,11 +7,9 @@ use mathlib.Core.Logic.{◌↔◌}
 use borrow.Author.Tests.{ne_eqb}
 use Rattle.words.specs.Choice.{when}
 use Rattle.words.specs.Grounds.{Ground, first}
-use Rattle.am9517.specs.Refusals.{refusal}
+use Rattle.am9517.specs.Refusals.{numbered, refused, refusal}
 use Rattle.am9517.specs.Answers.{outcome}
 use Rattle.am9517.specs.declared.Controller.{Controller}
-use Rattle.am9517.specs.declared.Answer.{Answer}
-use Rattle.am9517_service.specs.declared.RoundAnswer.TheVariants.{Refused}
 use Rattle.am9517_service.specs.Round.{beginning, close}
 use Rattle.am9517_service.specs.RoundAnswers.{closed, round_grounds, rounded_of}
 use Rattle.demands.specs.Lists.{All, none, also}
@@ -22,6 +20,7 @@ use Rattle.am9517.proofs.RefusalLaws.{number_told}
 use Rattle.am9517_service.proofs.AnswerLaws.{run_refused}
 use Rattle.am9517_service.proofs.StatedLaws.{ran_told, round_told}
 use Rattle.am9517_sheet.proofs.SheetLaws.{number_said}
+use Rattle.std.proofs.Common.{Option, Some, Err}
 
 -- by whether the first ground holds, and what is known of those after it
 first_by : (n : ℕ) (g : Ground ℕ) (gs : List (Ground ℕ)) (t : Bool) → g.holds ≡ t → (first gs 0 ≡ n → First n gs) → when t g.gives (first gs 0) ≡ n → First n (g ∷ gs)
@@ -59,12 +58,17 @@ refuses s op is stays zeros =
       only = λ h. zeros (no h);
     }
 
-outcome_stays : (n : ℕ) (s t : Controller) (a : Answer) → ¬ (n ≡ 0) → (outcome n s t a).controller ≡ s
+-- a number that isn't 0 is a refusal's
+pub refused_some : (n : ℕ) → ¬ (n ≡ 0) → refused n ≡ Some (numbered n)
+unfolding refused when
+refused_some n h = rw (ne_eqb n 0 h)
+
+outcome_stays : (n : ℕ) (s t : Controller) (a : Option ℕ) → ¬ (n ≡ 0) → (outcome n s t a).controller ≡ s
 unfolding outcome when
 outcome_stays n s t a h = rw (ne_eqb n 0 h)
 
 pub round_refused : (s : Controller) (m d r : List ℕ) (k : ℕ) → ¬ (refusal (round_grounds s m k) ≡ 0)
-    → rounded_of s m d r k ≡ closed (close (beginning s m r) (Refused (refusal (round_grounds s m k))))
+    → rounded_of s m d r k ≡ closed (close (beginning s m r) (Err (numbered (refusal (round_grounds s m k)))))
 unfolding rounded_of when
 round_refused s m d r k h = simp (ne_eqb _ 0 h)
 
@@ -78,16 +82,16 @@ round_zeros s m d r k h =
     rw (round_refused s m d r k h) (also refl (also refl (also refl (also refl (also refl (also refl (also refl (also refl none))))))))
 
 pub demand_1 : Demand1
-demand_1 s (Write r b) = refuses s (Write r b) (number_told _ _ _ _ refl) (λ h. ap (λ (c : Controller). before c Reset) (outcome_stays _ _ _ _ h)) (λ h. none)
-demand_1 s (Read r) = refuses s (Read r) (number_told _ _ _ _ refl) (λ h. ap (λ (c : Controller). before c Reset) (outcome_stays _ _ _ _ h)) (λ h. none)
-demand_1 s (Pins p) = refuses s (Pins p) (number_told _ _ _ _ refl) (λ h. ap (λ (c : Controller). before c Reset) (outcome_stays _ _ _ _ h)) (λ h. none)
-demand_1 s (Waits n) = refuses s (Waits n) (number_told _ _ _ _ refl) (λ h. ap (λ (c : Controller). before c Reset) (outcome_stays _ _ _ _ h)) (λ h. none)
-demand_1 s Reset = refuses s Reset (number_told _ _ _ _ refl) (λ h. ap (λ (c : Controller). before c Reset) (outcome_stays _ _ _ _ h)) (λ h. none)
-demand_1 s Grant = refuses s Grant (number_told _ _ _ _ refl) (λ h. ap (λ (c : Controller). before c Reset) (outcome_stays _ _ _ _ h)) (λ h. none)
+demand_1 s (Write r b) = refuses s (Write r b) (number_told _ refl _ _ _) (λ h. ap (λ (c : Controller). before c Reset) (outcome_stays _ _ _ _ h)) (λ h. none)
+demand_1 s (Read r) = refuses s (Read r) (number_told _ refl _ _ _) (λ h. ap (λ (c : Controller). before c Reset) (outcome_stays _ _ _ _ h)) (λ h. none)
+demand_1 s (Pins p) = refuses s (Pins p) (number_told _ refl _ _ _) (λ h. ap (λ (c : Controller). before c Reset) (outcome_stays _ _ _ _ h)) (λ h. none)
+demand_1 s (Waits n) = refuses s (Waits n) (number_told _ refl _ _ _) (λ h. ap (λ (c : Controller). before c Reset) (outcome_stays _ _ _ _ h)) (λ h. none)
+demand_1 s Reset = refuses s Reset (number_told _ refl _ _ _) (λ h. ap (λ (c : Controller). before c Reset) (outcome_stays _ _ _ _ h)) (λ h. none)
+demand_1 s Grant = refuses s Grant (number_told _ refl _ _ _) (λ h. ap (λ (c : Controller). before c Reset) (outcome_stays _ _ _ _ h)) (λ h. none)
 demand_1 s (Run m d r limit eop) =
-    refuses s (Run m d r limit eop) (ran_told s m d r limit eop) (λ h. ap ran_scene (run_refused s m d r limit eop _ refl h))
-    (λ h. rw (run_refused s m d r limit eop _ refl h) (also refl (also refl (also refl (also refl none)))))
+    refuses s (Run m d r limit eop) (ran_told s m d r limit eop) (λ h. ap ran_scene (run_refused s m d r limit eop _ (refused_some _ h)))
+    (λ h. rw (run_refused s m d r limit eop _ (refused_some _ h)) (also refl (also refl (also refl (also refl none)))))
 demand_1 s (Round m d r k) = refuses s (Round m d r k) (round_told s m d r k) (round_stays s m d r k) (round_zeros s m d r k)
-demand_1 s (SheetWriting form out) = refuses s (SheetWriting form out) (number_said _) (λ h. ap (λ (xs : List ℕ). before s (SheetWriting form xs)) (when_miss _ _ _ (ne_eqb _ 0 h))) (λ h. none)
-demand_1 s (SheetReading form bytes) = refuses s (SheetReading form bytes) (number_said _) (λ h. ap (λ (c : Controller). before c Reset) (when_miss _ _ _ (ne_eqb _ 0 h))) (λ h. none)
-demand_1 s (Converting to source out) = refuses s (Converting to source out) (number_said _) (λ h. ap (λ (xs : List ℕ). before s (SheetWriting to xs)) (when_miss _ _ _ (ne_eqb _ 0 h))) (λ h. none)
+demand_1 s (SheetWriting form out) = refuses s (SheetWriting form out) (number_said _ refl) (λ h. ap (λ (xs : List ℕ). before s (SheetWriting form xs)) (when_miss _ _ _ (ne_eqb _ 0 h))) (λ h. none)
+demand_1 s (SheetReading form bytes) = refuses s (SheetReading form bytes) (number_said _ refl) (λ h. ap (λ (c : Controller). before c Reset) (when_miss _ _ _ (ne_eqb _ 0 h))) (λ h. none)
+demand_1 s (Converting to source out) = refuses s (Converting to source out) (number_said _ refl) (λ h. ap (λ (xs : List ℕ). before s (SheetWriting to xs)) (when_miss _ _ _ (ne_eqb _ 0 h))) (λ h. none)

@@ -16,12 +16,9 @@ use Rattle.am9517.specs.Refusals.{refusal}
 use Rattle.am9517.specs.Answers.{refusal_number, grant_of}
 use Rattle.am9517.specs.declared.Controller.{Controller}
 use Rattle.am9517.specs.declared.Outcome.{Outcome}
-use Rattle.am9517.specs.declared.Answer.TheVariants.{Value}
 use Rattle.am9517_service.specs.declared.Reason.{Reason}
 use Rattle.am9517_service.specs.declared.Reason.TheVariants.{Ended, Dropped, Limit}
-use Rattle.am9517_service.specs.declared.RunAnswer.TheVariants as run-answer
-use Rattle.am9517_service.specs.declared.RoundAnswer.TheVariants.{Done, Quiet, Stopped, Refused}
-use Rattle.am9517_service.specs.declared.RoundAnswer.{RoundAnswer}
+use Rattle.am9517_service.specs.Round.{RoundAnswer}
 use Rattle.am9517_service.specs.World.{Stop, start_of}
 use Rattle.am9517_service.specs.Answers.{Given, run_refusal_number, stopped, ran_of}
 use Rattle.am9517_service.specs.Round.{Course, Close, close, beginning, nobody, run_next, with_run, after_next, is_ended, round_of}
@@ -41,6 +38,8 @@ use Rattle.demands.proofs.RunLists.{none_plus, drop_more, Come, come_nowhere, co
 use Rattle.demands.proofs.StopLaws.{never_dropped, granted_undropped, never_limit, run_words, granted_words}
 use Rattle.am9517_service.proofs.StatedLaws.{round_told}
 use Rattle.demands.proofs.Refusals.{round_refused}
+use Rattle.std.proofs.Common.{Some, Ok, Err}
+use Rattle.am9517_service.specs.declared.RoundEnd.TheVariants.{Done, Quiet, Stopped}
 
 -- one service more of channel n, and of the others as many as before
 one_more : (l : List ℕ) (n i : ℕ) → n < length l → get_or (set l n (get_or l n 0 + 1)) i 0 ≡ get_or l i 0 + when (eqb n i) 1 0
@@ -80,7 +79,7 @@ pub record Leads (w : Course) (e : Reason) (left : ℕ) (x : Close) (ops : List 
   pub come : Come w.memory w.room w.totals e x.course.memory x.course.room x.course.totals x.answer (eqb (length (grants w.controller ops)) left) (runs w.controller ops)
 
 -- no calls are left
-leads_nowhere : (w : Course) (e : Reason) (left : ℕ) (a : RoundAnswer) → a ≡ closing (run-answer.Stopped e) (eqb 0 left) → Leads w e left (close w a) []
+leads_nowhere : (w : Course) (e : Reason) (left : ℕ) (a : RoundAnswer) → a ≡ closing (Ok e) (eqb 0 left) → Leads w e left (close w a) []
 unfolding count
 leads_nowhere w e left a is =
     record { accepted = tt; leaves = refl; reports = λ n. omega arith; come = come_nowhere w.memory w.room w.totals e a (eqb 0 left) is }
@@ -101,7 +100,7 @@ module _ (d : List ℕ) (w : Course) (at : Stands w) (some : nobody w.controller
   abbrev x : Stop
   x = run_next w d
 
-  o : grant_of c ≡ record { controller = g; answer = Value n }
+  o : grant_of c ≡ record { controller = g; answer = Ok (Some n) }
   o = grant_some c at.range at.idle some
 
   -- what the run gives
@@ -186,7 +185,7 @@ calls_after left d y =
 -- the round stops behind this service, or goes on
 abbrev stop_or_on : ℕ → List ℕ → Course → Close
 stop_or_on left d w =
-    first (close (after_next w d) (Stopped (run_next w d).reason) if not (is_ended (run_next w d).reason) ∷ []) (round_of left d (after_next w d))
+    first (close (after_next w d) (Ok (Stopped (run_next w d).reason)) if not (is_ended (run_next w d).reason) ∷ []) (round_of left d (after_next w d))
 
 module _ (left : ℕ) (d : List ℕ) (w : Course) (at : Stands w) (some : nobody w.controller ≡ false) where
   abbrev why : Reason
@@ -206,10 +205,10 @@ module _ (left : ℕ) (d : List ℕ) (w : Course) (at : Stands w) (some : nobody
 leads : (left : ℕ) (d : List ℕ) (w : Course) (e : Reason) → is_ended e ≡ true → Stands w
     → Leads w e left (round_of left d w) (calls_from left w.controller w.memory (bytes_left d w) (room_left_lem w))
 unfolding round_of calls_from first
-leads zero d w e h at = leads_nowhere w e 0 Done (sym (when_hit (is_ended e) _ _ h ∙ when_hit (eqb 0 0) _ _ refl))
+leads zero d w e h at = leads_nowhere w e 0 (Ok Done) (sym (when_hit (is_ended e) _ _ h ∙ when_hit (eqb 0 0) _ _ refl))
 leads (suc left) d w e h at =
     when_two (Leads w e (suc left)) (nobody w.controller)
-    (λ none. leads_nowhere w e (suc left) Quiet (sym (when_hit (is_ended e) _ _ h ∙ when_miss (eqb 0 (suc left)) _ _ (eqb-zero-suc left))))
+    (λ none. leads_nowhere w e (suc left) (Ok Quiet) (sym (when_hit (is_ended e) _ _ h ∙ when_miss (eqb 0 (suc left)) _ _ (eqb-zero-suc left))))
     (λ some. first_two d w at some e left _ _
     (subst (λ (y : Given). Leads (after_next w d) (run_next w d).reason left (stop_or_on left d w) (calls_after left (bytes_left d w) y)) (sym (given d w at some))
     (leads_behind left d w at some (λ u. leads left d (after_next w d) (run_next w d).reason u (stands_on d w at some u)))))
@@ -257,16 +256,16 @@ round_is_calls_lem s m d r k = go (eqb (refusal (round_grounds s m k)) 0) refl
         (is_calls s m d r k there there.answer _ (round_accepted s m d r k free) (λ z. refl) (leads k d (beginning s m r) Ended refl at))
     go false e =
         let bad = eqb-false _ _ e in
-        let a = closing (run-answer.Stopped Ended) (eqb 0 k) in
+        let a = closing (Ok Ended) (eqb 0 k) in
         subst (IsCalls s m d r k) (sym (when_miss _ _ _ e))
         (is_calls s m d r k (close (beginning s m r) a) _ [] (round_refused s m d r k bad) (λ z. absurd (bad (sym (round_told s m d r k) ∙ z))) (leads_nowhere (beginning s m r) Ended k a refl))
 
 -- Why a round stops: an answer that doesn't give this reason.
 abbrev pub Other : Reason → RoundAnswer → Type 0
-Other e Done = Unit
-Other e Quiet = Unit
-Other e (Stopped why) = ¬ (why ≡ e)
-Other e (Refused n) = Unit
+Other e (Ok Done) = Unit
+Other e (Ok Quiet) = Unit
+Other e (Ok (Stopped why)) = ¬ (why ≡ e)
+Other e (Err r) = Unit
 
 -- what no run of a round says that isn't "ended", the round doesn't say
 module _ (e : Reason) (Keeps : Controller → Type 0)
@@ -285,7 +284,7 @@ module _ (e : Reason) (Keeps : Controller → Type 0)
   rounded_other s m d r k h =
       when_both (λ (g : RoundGiven). Other e g.rounded.answer) _ (round_other k d (beginning s m r) h) tt
 
-  never_said : (s : Controller) (m d r : List ℕ) (k : ℕ) → Keeps s → ¬ ((rounded_of s m d r k).rounded.answer ≡ Stopped e)
+  never_said : (s : Controller) (m d r : List ℕ) (k : ℕ) → Keeps s → ¬ ((rounded_of s m d r k).rounded.answer ≡ Ok (Stopped e))
   never_said s m d r k h is = subst (Other e) is (rounded_other s m d r k h) refl
 
 pub next_undropped : (d : List ℕ) (w : Course) → nobody w.controller ≡ false → ¬ ((run_next w d).reason ≡ Dropped)

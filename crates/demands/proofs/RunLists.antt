@@ -9,12 +9,12 @@ use lib.ListN.{length, take, drop, take-append-drop}
 use lib.Seq.{take-nil, drop-nil}
 use Rattle.am9517_service.specs.declared.Counts.{Counts}
 use Rattle.am9517_service.specs.declared.Reason.{Reason}
-use Rattle.am9517_service.specs.declared.RunAnswer.TheVariants.{Stopped}
-use Rattle.am9517_service.specs.declared.RoundAnswer.{RoundAnswer}
+use Rattle.am9517_service.specs.Round.{RoundAnswer}
 use Rattle.am9517_service.specs.Counts.{none, plus}
 use Rattle.am9517_service.specs.World.{Stop}
 use Rattle.am9517_service.specs.Answers.{Given, stopped}
 use Rattle.demands.specs.Rounds.{memory_behind, room_behind, sums, last_answer, closing}
+use Rattle.std.proofs.Common.{Ok}
 
 plus_none : (k : Counts) → plus k none ≡ k
 plus_none k = simp add-zero
@@ -43,10 +43,10 @@ pub record Come (m r : List ℕ) (t : Counts) (e : Reason) (m' r' : List ℕ) (t
   pub memory : m' ≡ memory_behind m gs
   pub room : r' ≡ take t.written r ++ room_behind (drop t.written r) gs
   pub totals : t' ≡ plus t (sums gs)
-  pub answers : a ≡ closing (last_answer (Stopped e) gs) done
+  pub answers : a ≡ closing (last_answer (Ok e) gs) done
 
 -- no run
-pub come_nowhere : (m r : List ℕ) (t : Counts) (e : Reason) (a : RoundAnswer) (done : Bool) → a ≡ closing (Stopped e) done → Come m r t e m r t a done []
+pub come_nowhere : (m r : List ℕ) (t : Counts) (e : Reason) (a : RoundAnswer) (done : Bool) → a ≡ closing (Ok e) done → Come m r t e m r t a done []
 come_nowhere m r t e a done is = record { memory = refl; room = sym (take-append-drop t.written r); totals = sym (plus_none t); answers = is }
 
 -- one run, handed the room behind the last byte written, and then these

@@ -27,6 +27,7 @@ use Rattle.am9517.proofs.RangeLaws.{Ranges, ranges, fields}
 use Rattle.am9517_service.proofs.AnswerLaws.{run_refused, run_accepted}
 use Rattle.am9517_service.proofs.KeepLaws.{Counted, run_counted, run_left_lem}
 use Rattle.am9517_service.proofs.StatedLaws.{ran_told}
+use Rattle.demands.proofs.Refusals.{refused_some}
 use Rattle.demands.proofs.Fairness.{open_run}
 
 -- a transfer leaves the service open, TC and EOP end it
@@ -106,7 +107,7 @@ module _ (s : Controller) (m d r : List ℕ) (limit eop : ℕ) where
     where
       go : (t : Bool) → eqb (refusal (run_grounds s m)) 0 ≡ t → Sized (ran_of s m d r limit eop)
       go true e = subst Sized (sym (run_accepted s m d r limit eop (eqb-true _ _ e))) stopped_sized
-      go false e = subst Sized (sym (run_refused s m d r limit eop _ refl (eqb-false _ _ e))) (refl, refl)
+      go false e = subst Sized (sym (run_refused s m d r limit eop _ (refused_some _ (eqb-false _ _ e)))) (refl, refl)
 
 pub stops_as_said : StopsAsSaid
 stops_as_said =

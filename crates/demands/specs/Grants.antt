@@ -1,9 +1,8 @@
 -- The grants that operations make, in their order: what demand 3 speaks of.
-use Rattle.std.specs.Prelude.{ℕ, List, [], ◌∷◌, ◌++◌, map}
+use Rattle.std.specs.Prelude.{ℕ, List, [], ◌∷◌, ◌++◌, map, Some, None, Ok, Err}
 use Rattle.am9517.specs.Answers.{grant_of}
 use Rattle.am9517.specs.declared.Controller.{Controller}
-use Rattle.am9517.specs.declared.Answer.{Answer}
-use Rattle.am9517.specs.declared.Answer.TheVariants.{Done, Value, Refused}
+use Rattle.am9517.specs.Answers.{Answer}
 use Rattle.demands.specs.Operations.{Op, Write, Read, Pins, Reset, Waits, Grant, Run, Round, SheetWriting, SheetReading, Converting, next}
 
 -- A grant: the state that it was made in, and the channel that it went to.
@@ -13,9 +12,9 @@ pub record Granted : Type 0 where
 
 -- the grant that this answer of `grant` tells of; a refusal is none
 abbrev pub told : Controller → Answer → List Granted
-told s Done = []
-told s (Value n) = record { before = s; channel = n } ∷ []
-told s (Refused n) = []
+told s (Ok None) = []
+told s (Ok (Some n)) = record { before = s; channel = n } ∷ []
+told s (Err r) = []
 
 -- the grant that a call makes; a round stands for its calls (Rounds.antt)
 abbrev pub made : Controller → Op → List Granted

@@ -1,5 +1,5 @@
 -- A round is its calls, in all that it leaves and says; and operations with rounds among them, each round spelled as its calls.
-use Rattle.std.specs.Prelude.{ℕ, zero, suc, ◌<◌, ◌≡◌, Bool, false, not, List, [], ◌∷◌, ◌++◌, eqb, length, get_or, take, drop}
+use Rattle.std.specs.Prelude.{ℕ, zero, suc, ◌<◌, ◌≡◌, Bool, false, not, List, [], ◌∷◌, ◌++◌, eqb, length, get_or, take, drop, Ok, Err}
 use Rattle.words.specs.Choice.{when}
 use Rattle.words.specs.Grounds.{◌if◌, first}
 use Rattle.am9517.specs.Fields.{channel}
@@ -7,10 +7,8 @@ use Rattle.am9517.specs.Refusals.{refusal}
 use Rattle.am9517.specs.declared.Controller.{Controller}
 use Rattle.am9517_service.specs.declared.Counts.{Counts}
 use Rattle.am9517_service.specs.declared.Reason.TheVariants.{Ended, Dropped, Limit}
-use Rattle.am9517_service.specs.declared.RunAnswer.{RunAnswer}
-use Rattle.am9517_service.specs.declared.RunAnswer.TheVariants as run
-use Rattle.am9517_service.specs.declared.RoundAnswer.{RoundAnswer}
-use Rattle.am9517_service.specs.declared.RoundAnswer.TheVariants.{Done, Quiet, Stopped, Refused}
+use Rattle.am9517_service.specs.Answers.{RunAnswer}
+use Rattle.am9517_service.specs.Round.{RoundAnswer}
 use Rattle.am9517_service.specs.Counts.{none, plus}
 use Rattle.am9517_service.specs.Answers.{Given, ran_of}
 use Rattle.am9517_service.specs.Round.{nobody, is_ended}
@@ -18,11 +16,12 @@ use Rattle.am9517_service.specs.RoundAnswers.{round_grounds, rounded_of}
 use Rattle.demands.specs.Lists.{count}
 use Rattle.demands.specs.Operations.{Op, Write, Read, Pins, Reset, Waits, Grant, Run, Round, SheetWriting, SheetReading, Converting, next, after_all, said}
 use Rattle.demands.specs.Grants.{grants, channels}
+use Rattle.am9517_service.specs.declared.RoundEnd.TheVariants.{Done, Quiet, Stopped}
 
 -- the run stopped, and its service ended
 abbrev pub has_ended : RunAnswer → Bool
-has_ended (run.Stopped e) = is_ended e
-has_ended (run.Refused n) = false
+has_ended (Ok e) = is_ended e
+has_ended (Err r) = false
 
 -- "up to k services .., grant then run, limit 65,536, no EOP. The device bytes not yet used are handed on to the next run, and so is
 -- the room behind the last byte written." The calls of a round that may begin so many more services.
@@ -81,8 +80,8 @@ last_answer a (g ∷ gs) = last_answer g.ran.answer gs
 
 -- "It stops, in this order after each run: not "ended" (its reason); k begun ("done"); nobody entitled ("quiet")."
 abbrev pub closing : RunAnswer → Bool → RoundAnswer
-closing (run.Stopped e) done = when (is_ended e) (when done Done Quiet) (Stopped e)
-closing (run.Refused n) done = Refused n
+closing (Ok e) done = when (is_ended e) (when done (Ok Done) (Ok Quiet)) (Ok (Stopped e))
+closing (Err r) done = Err r
 
 -- none of these calls is refused
 abbrev pub Accepted : Controller → List Op → Type 0
@@ -106,7 +105,7 @@ pub record IsCalls (s : Controller) (m d r : List ℕ) (k : ℕ) (ops : List Op)
   pub totals : (rounded_of s m d r k).rounded.totals ≡ sums (runs s ops)
   -- and, unless refused, it answers by their last run, or by whether k services were begun.
   pub answers : said s (Round m d r k) ≡ 0
-      → (rounded_of s m d r k).rounded.answer ≡ closing (last_answer (run.Stopped Ended) (runs s ops)) (eqb (length (grants s ops)) k)
+      → (rounded_of s m d r k).rounded.answer ≡ closing (last_answer (Ok Ended) (runs s ops)) (eqb (length (grants s ops)) k)
 
 -- A round is its calls.
 abbrev pub RoundIsCalls : Type 0
@@ -119,9 +118,9 @@ Words s = (n : ℕ) → ((channel s n).count < 65536) × ((channel s n).base_cou
 -- These three reasons never come out of a round: a service that is granted has its line or its software request, its count meets TC
 -- within 65,536 transfers, and behind one that "ended" it goes on, or says "done" or "quiet".
 pub record RoundNeverStops (s : Controller) (m d r : List ℕ) (k : ℕ) : Type 0 where
-  pub dropped : ¬ ((rounded_of s m d r k).rounded.answer ≡ Stopped Dropped)
-  pub limit : Words s → ¬ ((rounded_of s m d r k).rounded.answer ≡ Stopped Limit)
-  pub ended : ¬ ((rounded_of s m d r k).rounded.answer ≡ Stopped Ended)
+  pub dropped : ¬ ((rounded_of s m d r k).rounded.answer ≡ Ok (Stopped Dropped))
+  pub limit : Words s → ¬ ((rounded_of s m d r k).rounded.answer ≡ Ok (Stopped Limit))
+  pub ended : ¬ ((rounded_of s m d r k).rounded.answer ≡ Ok (Stopped Ended))
 
 abbrev pub RoundStops : Type 0
 RoundStops = (s : Controller) (m d r : List ℕ) (k : ℕ) → RoundNeverStops s m d r k

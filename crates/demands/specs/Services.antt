@@ -1,9 +1,8 @@
 -- What an accepted run leaves: its service open or over, as the reason says, and memory and room of the size that was lent.
-use Rattle.std.specs.Prelude.{ℕ, ◌≡◌, List, length}
+use Rattle.std.specs.Prelude.{ℕ, ◌≡◌, List, length, Ok}
 use Rattle.am9517.specs.declared.Controller.{Controller}
 use Rattle.am9517_service.specs.declared.Reason.{Reason}
 use Rattle.am9517_service.specs.declared.Reason.TheVariants.{Ended, Dropped, Cascade, Limit, Short}
-use Rattle.am9517_service.specs.declared.RunAnswer.TheVariants.{Stopped}
 use Rattle.am9517_service.specs.Answers.{ran_of}
 use Rattle.demands.specs.Operations.{Run, next, said}
 
@@ -19,7 +18,7 @@ open_behind Short = 1
 pub record Stops (s : Controller) (m d r : List ℕ) (limit eop : ℕ) : Type 0 where
   -- It answers with a reason,
   pub reason : Reason
-  pub answer : (ran_of s m d r limit eop).ran.answer ≡ Stopped reason
+  pub answer : (ran_of s m d r limit eop).ran.answer ≡ Ok reason
   -- and leaves the service open or over, as that says.
   pub service : (next s (Run m d r limit eop)).in_service ≡ open_behind reason
   -- "However a service ends, the serving channel, the latch and its full mark become zero."

@@ -1,21 +1,24 @@
 -- What judging answers: refused, or what is found of the log.
-use Prim.Native.Nat.{ℕ, zero, suc, ◌/◌, ◌%◌, ◌≤◌}
+use Prim.Native.Nat.{ℕ, ◌/◌, ◌%◌, ◌≤◌}
 use mathlib.Core.Path.{◌≡◌, refl, sym, ap, ◌∙◌}
 use mathlib.Core.Bool.{Bool, true, false, not}
-use mathlib.Core.List.{List, [], ◌∷◌}
+use mathlib.Core.List.{List, []}
 use native.Mathlib.Omega.{arith}
 use lib.Dec.{eqb}
 use lib.IntN.{pos}
-use lib.ListN.{length, get_or, drop}
+use lib.ListN.{length, get_or}
 use borrow.Author.Tests.{eqb-true, eqb-false, ne_eqb, not-false}
 use Rattle.words.specs.Choice.{when}
 use Rattle.words.specs.Grounds.{first}
-use Rattle.am9517.specs.Refusals.{refusal}
+use Rattle.am9517.specs.Refusals.{numbered, refused, refusal}
 use Rattle.am9517.specs.declared.Controller.{Controller}
+use Rattle.am9517.specs.declared.refusals.Refusal.{Refusal}
 use Rattle.am9517_service.specs.Answers.{run_grounds}
 use Rattle.words.proofs.ChoiceLaws.{when_hit, when_miss, when_both}
 use Rattle.words.proofs.GroundLaws.{passed}
 use Rattle.am9517.proofs.RangeLaws.{fields}
+use Rattle.am9517.proofs.RefusalLaws.{taken, few, number_back}
+use Rattle.std.proofs.Common.{Some}
 use Rattle.logs.specs.declared.Verdict.{Verdict}
 use Rattle.logs.specs.declared.Verdict.TheVariants.{Refused}
 use Rattle.logs.specs.declared.Judged.{Judged}
@@ -30,13 +33,6 @@ use Rattle.am9517_service.proofs.AnswerLaws.{run_open, serving_is}
 use Rattle.logs.proofs.RegisterLaws.{record_here}
 use Rattle.logs.proofs.NextLaws.{transfers_is}
 use Rattle.logs.proofs.JudgeLaws.{judged_still}
-
--- a part that begins behind the end is the empty one at the end
-pub past_all : (n : ℕ) (l : List ℕ) → length l ≤ n → drop (length l) l ≡ drop n l
-past_all zero [] h = refl
-past_all (suc n) [] h = refl
-past_all zero (x ∷ xs) h = absurd (omega arith)
-past_all (suc n) (x ∷ xs) h = past_all n xs (omega arith)
 
 -- the record of the next transfer, and of none
 module _ (c : Controller) (m : List ℕ) (device : ℕ) (eop : Bool) where
@@ -56,22 +52,23 @@ module _ (c : Controller) (m : List ℕ) (device : ℕ) (eop : Bool) where
 
 module _ (c : Controller) (m log : List ℕ) where
   -- an answer states this paper's number
-  given_number : (n : ℕ) (t : Bool) → eqb n 0 ≡ t
-      → judge_refusal_number (when t (told (length log) (judged (length log / 8) c m log)) (judge_given (record { controller = c; verdict = Refused n }) m)).judged.verdict ≡ n
+  given_number : (n : ℕ) (t : Bool) → eqb n 0 ≡ t → n ≤ 15
+      → judge_refusal_number (when t (told (length log) (judged (length log / 8) c m log)) (judge_given (record { controller = c; verdict = Refused (numbered n) }) m)).judged.verdict ≡ n
   unfolding told verdict_of when
-  given_number n true e = when_both (λ (v : Verdict). judge_refusal_number v ≡ 0) (eqb (judged (length log / 8) c m log).place (length log)) refl refl ∙ sym (eqb-true _ _ e)
-  given_number n false e = refl
+  given_number n true e l = when_both (λ (v : Verdict). judge_refusal_number v ≡ 0) (eqb (judged (length log / 8) c m log).place (length log)) refl refl ∙ sym (eqb-true _ _ e)
+  given_number n false e l = number_back n l (eqb-false _ _ e)
 
   pub stated : (j : Judged) (l : List ℕ) → judge_given j l ≡ judged_of c m log
       → (judge_given j l ≡ judged_of c m log) × (judge_refusal_number j.verdict ≡ refusal (run_grounds c m))
   unfolding judged_of
-  stated j l e = (e, ap (λ (g : JudgeGiven). judge_refusal_number g.judged.verdict) e ∙ given_number (refusal (run_grounds c m)) _ refl)
+  stated j l e = (e, ap (λ (g : JudgeGiven). judge_refusal_number g.judged.verdict) e ∙ given_number (refusal (run_grounds c m)) _ refl (few (run_grounds c m) refl))
 
-  pub refused_by : (n : ℕ) → n ≡ refusal (run_grounds c m) → (n ≡ 0 → ⊥) → judge_given (record { controller = c; verdict = Refused n }) m ≡ judged_of c m log
+  pub refused_by : (why : Refusal) → refused (refusal (run_grounds c m)) ≡ Some why → judge_given (record { controller = c; verdict = Refused why }) m ≡ judged_of c m log
   unfolding judged_of
-  refused_by n e h =
-      ap (λ (k : ℕ). judge_given (record { controller = c; verdict = Refused k }) m) e
-      ∙ sym (when_miss (eqb (refusal (run_grounds c m)) 0) _ _ (ne_eqb _ _ (λ z. h (e ∙ z))))
+  refused_by why h =
+      let t = taken (refusal (run_grounds c m)) why h in
+      ap (λ (r : Refusal). judge_given (record { controller = c; verdict = Refused r }) m) t.1
+      ∙ sym (when_miss (eqb (refusal (run_grounds c m)) 0) _ _ (ne_eqb _ _ t.0))
 
   module _ (free : refusal (run_grounds c m) ≡ 0) where
     pub found_by : told (length log) (judged (length log / 8) c m log) ≡ judged_of c m log

@@ -1,9 +1,8 @@
--- Two records held against each other, field by field; and the record at a place, held against the one that goes on.
-use Prim.Native.Nat.{ℕ, zero, suc, ◌≤◌, ◌<◌}
+-- Two records held against each other; and the record at a place, held against the one that goes on.
+use Prim.Native.Nat.{ℕ, ◌≤◌, ◌<◌}
 use mathlib.Core.Path.{◌≡◌, refl, sym, ap, ◌∙◌}
 use mathlib.Core.Bool.{Bool, true, false, ◌&&◌}
-use mathlib.Core.List.{List, [], ◌∷◌}
-use native.Mathlib.Omega.{arith}
+use mathlib.Core.List.{List}
 use lib.Dec.{eqb, leb}
 use lib.ListN.{length, get_or}
 use borrow.Author.Tests.{eq-eqb, ne_eqb, le-leb, lt-leb, leb-true}
@@ -16,41 +15,11 @@ use Rattle.logs.specs.Record.{record_in}
 use Rattle.logs.specs.Judge.{same}
 use Rattle.logs.specs.ClosedRegisters.{record_by, goes_on, goes_on_in}
 
--- a byte behind the end
-pub none_behind : (l : List ℕ) (n : ℕ) → length l ≤ n → 0 ≡ get_or l n 0
-none_behind [] n h = refl
-none_behind (x ∷ xs) zero h = absurd (omega arith)
-none_behind (x ∷ xs) (suc n) h = none_behind xs n (omega arith)
-
--- where the fields before one are the same, that one decides: it differs, or it is asked on
-module _ (r s : Record) where
-  pub unlike_channel : (r.channel ≡ s.channel → ⊥) → false ≡ same r s
-  unfolding same ◌and◌
-  unlike_channel n = simp (ne_eqb _ _ n)
-
-  module _ (a : r.channel ≡ s.channel) where
-    pub unlike_kind : (r.kind ≡ s.kind → ⊥) → false ≡ same r s
-    unfolding same ◌and◌
-    unlike_kind n = simp (eq-eqb _ _ a, ne_eqb _ _ n)
-
-    module _ (b : r.kind ≡ s.kind) where
-      pub unlike_address : (r.address ≡ s.address → ⊥) → false ≡ same r s
-      unfolding same ◌and◌
-      unlike_address n = simp (eq-eqb _ _ a, eq-eqb _ _ b, ne_eqb _ _ n)
-
-      module _ (c : r.address ≡ s.address) where
-        pub unlike_second : (r.second ≡ s.second → ⊥) → false ≡ same r s
-        unfolding same ◌and◌
-        unlike_second n = simp (eq-eqb _ _ a, eq-eqb _ _ b, eq-eqb _ _ c, ne_eqb _ _ n)
-
-        module _ (d : r.second ≡ s.second) where
-          pub unlike_byte : (r.byte ≡ s.byte → ⊥) → false ≡ same r s
-          unfolding same ◌and◌
-          unlike_byte n = simp (eq-eqb _ _ a, eq-eqb _ _ b, eq-eqb _ _ c, eq-eqb _ _ d, ne_eqb _ _ n)
-
-          pub by_flags : r.byte ≡ s.byte → eqb r.flags s.flags ≡ same r s
-          unfolding same ◌and◌
-          by_flags e = simp (eq-eqb _ _ a, eq-eqb _ _ b, eq-eqb _ _ c, eq-eqb _ _ d, eq-eqb _ _ e)
+-- what `==` of two records tells
+pub same_is : (r s : Record)
+    → eqb r.channel s.channel && (eqb r.kind s.kind && (eqb r.address s.address && (eqb r.second s.second && (eqb r.byte s.byte && eqb r.flags s.flags)))) ≡ same r s
+unfolding same ◌and◌
+same_is r s = refl
 
 module _ (s : Service) (g : Registers) (m log : List ℕ) where
   pub none_there : length log < 8 → false ≡ goes_on_in s g m log

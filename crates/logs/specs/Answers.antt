@@ -1,7 +1,7 @@
 -- What a call of judge gives, for all inputs: its answer, and the memory as it leaves it.
 use Rattle.std.specs.Prelude.{ℕ, ◌/◌, Bool, List, [], eqb, length}
 use Rattle.words.specs.Choice.{when}
-use Rattle.am9517.specs.Refusals.{refusal}
+use Rattle.am9517.specs.Refusals.{number_of, numbered, refusal}
 use Rattle.am9517.specs.declared.Controller.{Controller}
 use Rattle.am9517_service.specs.Answers.{run_grounds}
 use Rattle.logs.specs.declared.Verdict.{Verdict}
@@ -15,7 +15,7 @@ use Rattle.logs.specs.Judge.{Found, judged}
 abbrev pub judge_refusal_number : Verdict → ℕ
 judge_refusal_number Accepted = 0
 judge_refusal_number (Wrong at error) = 0
-judge_refusal_number (Refused n) = n
+judge_refusal_number (Refused r) = number_of r
 
 pub record JudgeGiven : Type 0 where
   pub judged : Judged
@@ -35,13 +35,13 @@ told size f = judge_given (record { controller = f.controller; verdict = verdict
 unfoldable pub judged_of : Controller → List ℕ → List ℕ → JudgeGiven
 judged_of c m log =
     let n = refusal (run_grounds c m) in
-    when (eqb n 0) (told (length log) (judged (length log / 8) c m log)) (judge_given (record { controller = c; verdict = Refused n }) m)
+    when (eqb n 0) (told (length log) (judged (length log / 8) c m log)) (judge_given (record { controller = c; verdict = Refused (numbered n) }) m)
 
 -- where the part that is handed back begins: at the first wrong record; accepted, at the end; refused, the log is handed back whole
 abbrev pub place_of : ℕ → Verdict → ℕ
 place_of size Accepted = size
 place_of size (Wrong at error) = at
-place_of size (Refused n) = 0
+place_of size (Refused r) = 0
 
 -- the record of the next transfer, of an open service that a run would not refuse; else one of zeros
 unfoldable pub next_record_of : Controller → List ℕ → ℕ → Bool → Record

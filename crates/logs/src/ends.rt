@@ -4,24 +4,20 @@ ghost use Rattle.am9517_service.specs.Ends.{finished, after_tc_or_eop};
 ghost use Rattle.logs.specs.Judge.{next_run};
 ghost use Rattle.logs.specs.ClosedRegisters.{Flowing, last_by};
 
-use crate::registers::{is_copy, registers_of, service_of, stepped_by, store_by, with_registers};
+use crate::registers::{registers_of, service_of, stepped_by, store_by, with_registers};
 use am9517::Controller;
-use am9517_service::{Bits, bits_after, channel_after};
+use am9517_service::{bits_after, bits_of, channel_after, is_copy};
 use words::bits::with_bit;
 use words::choice::when;
 
 // A service of channel n over by TC or EOP.
+#[tactic(auto, unfolding(am9517_service::specs::Ends::finished))]
 fn finished(c: Controller, n: usize, tc: bool, eop: bool) -> Controller
     requires { n < 4 }
     ensures { result ≡ finished c n tc eop }
 {
     let ch = c.channels[n];
-    let was = Bits {
-        tc: c.tc,
-        request: c.request,
-        mask: c.mask,
-    };
-    let bits = bits_after(c.edition, n, ch.mode, was, tc, eop);
+    let bits = bits_after(c.edition, n, ch.mode, bits_of(c), tc, eop);
     let mut next = c;
     next.channels[n] = channel_after(ch);
     next.tc = bits.tc;
@@ -31,6 +27,7 @@ fn finished(c: Controller, n: usize, tc: bool, eop: bool) -> Controller
 }
 
 // The service of channel i over by TC or EOP: in memory-to-memory it is channel 1 that finishes.
+#[tactic(auto, unfolding(am9517_service::specs::Ends::after_tc_or_eop, words::specs::Choice::when))]
 fn after_tc_or_eop(c: Controller, i: usize, tc: bool, eop: bool) -> Controller
     requires { (i < 4) × (i ≡ c.serving) }
     ensures { result ≡ after_tc_or_eop c tc eop }
@@ -44,6 +41,7 @@ fn after_tc_or_eop(c: Controller, i: usize, tc: bool, eop: bool) -> Controller
 }
 
 // What a transfer leaves that has made this of the controller, by what it meets.
+#[tactic(auto, unfolding(words::specs::Choice::when))]
 fn last_by(c: Controller, i: usize, tc: bool, eop: bool, once: bool) -> Controller
     requires { (i < 4) × (i ≡ c.serving) }
     ensures { result ≡ last_by c tc eop once }

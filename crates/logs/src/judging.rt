@@ -8,7 +8,7 @@ ghost use Rattle.logs.specs.ClosedRegisters.{Flowing, Rest, Passes};
 
 use crate::ends::make_last;
 use crate::errors::error_of;
-use crate::records::{goes_on, record_at, record_by, same};
+use crate::records::{goes_on, record_at, record_by};
 use crate::registers::{flows, registers_of, service_of, stepped_by, store_by, with_registers};
 use crate::{Judged, Verdict};
 use am9517::Controller;
@@ -71,7 +71,7 @@ fn finish(c: Controller, i: usize, memory: &mut [u8], log: &[u8], at: usize) -> 
     let eop = is_set(r.flags, 1);
     let g = registers_of(c, i);
     let here = memory[g.address as usize];
-    if !same(r, record_by(service_of(c, i), g, here, r.byte, eop)) {
+    if r != record_by(service_of(c, i), g, here, r.byte, eop) {
         return told(c, at, error_of(r.address, g.address), size);
     }
     let next = make_last(c, i, memory, r.byte, eop);
@@ -82,11 +82,10 @@ fn finish(c: Controller, i: usize, memory: &mut [u8], log: &[u8], at: usize) -> 
 pub fn judge(c: Controller, memory: &mut [u8], log: &[u8]) -> Judged
     ensures { (judge_given result memory.new ≡ judged_of c memory.old log.now) × (judge_refusal_number result.verdict ≡ refusal (run_grounds c memory.old)) }
 {
-    let no = run_refusal(c, memory);
-    if no != 0 {
+    if let Some(refusal) = run_refusal(c, memory) {
         return Judged {
             controller: c,
-            verdict: Verdict::Refused(no),
+            verdict: Verdict::Refused(refusal),
         };
     }
     let i = (c.serving % 4) as usize;

@@ -2,7 +2,6 @@
 ghost use Rattle.std.specs.Prelude.{◌≡◌, ◌+◌, ◌≤◌, ◌<◌, length, get_or, drop};
 ghost use Rattle.words.specs.Choice.{when};
 ghost use Rattle.logs.specs.Record.{record_in, bytes_of};
-ghost use Rattle.logs.specs.Judge.{same};
 ghost use Rattle.logs.specs.Answers.{next_record_of};
 ghost use Rattle.logs.specs.ClosedRegisters.{record_by, goes_on_in};
 
@@ -68,27 +67,6 @@ pub fn bytes_of(r: Record) -> [u8; 8]
     ]
 }
 
-pub(crate) fn same(r: Record, s: Record) -> bool
-    ensures { result ≡ same r s }
-{
-    if r.channel != s.channel {
-        return false;
-    }
-    if r.kind != s.kind {
-        return false;
-    }
-    if r.address != s.address {
-        return false;
-    }
-    if r.second != s.second {
-        return false;
-    }
-    if r.byte != s.byte {
-        return false;
-    }
-    r.flags == s.flags
-}
-
 fn flags_by(tc: bool, eop: bool, last: bool) -> u8
     ensures { result ≡ when tc 1 0 + when eop 2 0 + when last 4 0 }
 {
@@ -126,7 +104,7 @@ pub(crate) fn goes_on(s: Service, g: Registers, memory: &[u8], log: &[u8], at: u
     if r.flags != 0 {
         return false;
     }
-    same(r, record_by(s, g, here, r.byte, false))
+    r == record_by(s, g, here, r.byte, false)
 }
 
 // The record of the next transfer of the open service, where the device's next byte is this and external EOP is met or not; of zeros
@@ -134,7 +112,7 @@ pub(crate) fn goes_on(s: Service, g: Registers, memory: &[u8], log: &[u8], at: u
 pub fn next_record(c: Controller, memory: &[u8], device: u8, eop: bool) -> Record
     ensures { result ≡ next_record_of c memory.now device eop }
 {
-    if run_refusal(c, memory) != 0 {
+    if run_refusal(c, memory).is_some() {
         return record_in(&memory[0..0]);
     }
     let i = (c.serving % 4) as usize;

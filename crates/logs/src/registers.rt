@@ -1,16 +1,15 @@
 // A service between two transfers: what stays, and the registers that its transfers step. As numbers beside the controller, they stay out
 // of the memory in a loop.
 ghost use Rattle.std.specs.Prelude.{◌≡◌, ◌<◌, length};
-ghost use Rattle.am9517_service.specs.World.{memory_to_memory};
 ghost use Rattle.logs.specs.ClosedRegisters.{service_of, registers_of, with_registers, stepped_by, stored_by, flows};
 
 use am9517::Controller;
 use am9517::modes::{
     address_hold, autoinitialize, decrement, is_cascade, is_demand, is_read, is_single, is_write,
-    memory_to_memory_bit,
 };
+use am9517_service::is_copy;
 use words::bytes::high_byte;
-use words::choice::{when, when_word};
+use words::choice::when;
 use words::steps::step;
 
 // What stays over a service.
@@ -40,13 +39,8 @@ pub struct Registers {
     pub latch: u8,
 }
 
-pub(crate) fn is_copy(c: Controller) -> bool
-    ensures { result ≡ memory_to_memory c }
-{
-    memory_to_memory_bit(c.command) & (c.serving == 0)
-}
-
 // The service of channel i.
+#[tactic(auto, unfolding(crate::specs::Record::kind_of, am9517_service::specs::Ends::single))]
 pub(crate) fn service_of(c: Controller, i: usize) -> Service
     requires { (i < 4) × (i ≡ c.serving) }
     ensures { result ≡ service_of c }
@@ -78,9 +72,9 @@ pub(crate) fn registers_of(c: Controller, i: usize) -> Registers
     let copies = is_copy(c);
     Registers {
         address: ch.address,
-        count: when_word(copies, second.count, ch.count),
-        second: when_word(copies, second.address, 0),
-        source: when_word(copies, ch.count, 0),
+        count: when(copies, second.count, ch.count),
+        second: when(copies, second.address, 0),
+        source: when(copies, ch.count, 0),
         temporary: c.temporary,
         latch_full: c.latch_full,
         latch: c.latch,
@@ -88,6 +82,7 @@ pub(crate) fn registers_of(c: Controller, i: usize) -> Registers
 }
 
 // The controller, serving channel i, with these registers.
+#[tactic(auto, unfolding(words::specs::Choice::when))]
 pub(crate) fn with_registers(c: Controller, i: usize, g: Registers) -> Controller
     requires { (i < 4) × (i ≡ c.serving) }
     ensures { result ≡ with_registers c g }
@@ -96,7 +91,7 @@ pub(crate) fn with_registers(c: Controller, i: usize, g: Registers) -> Controlle
     let mut second = c.channels[1];
     ch.address = g.address;
     let copies = is_copy(c);
-    ch.count = when_word(copies, g.source, g.count);
+    ch.count = when(copies, g.source, g.count);
     second.address = g.second;
     second.count = g.count;
     let mut next = c;
@@ -111,6 +106,7 @@ pub(crate) fn with_registers(c: Controller, i: usize, g: Registers) -> Controlle
 }
 
 // The registers after a transfer of this byte that does not end the service.
+#[tactic(auto, unfolding(crate::specs::ClosedRegisters::stepped_by, words::specs::Choice::when))]
 pub(crate) fn stepped_by(s: Service, g: Registers, byte: u8) -> Registers
     ensures { result ≡ stepped_by s g byte }
 {
@@ -118,12 +114,12 @@ pub(crate) fn stepped_by(s: Service, g: Registers, byte: u8) -> Registers
     let count = step(g.count, true);
     if s.kind == 3 {
         let passed = (g.source == 0) & s.again;
-        let on = when_word(s.hold, g.address, stepped);
+        let on = when(s.hold, g.address, stepped);
         return Registers {
-            address: when_word(passed, s.base_address, on),
+            address: when(passed, s.base_address, on),
             count,
             second: step(g.second, s.to_down),
-            source: when_word(passed, s.base_count, step(g.source, true)),
+            source: when(passed, s.base_count, step(g.source, true)),
             temporary: byte,
             latch_full: g.latch_full,
             latch: g.latch,
@@ -141,6 +137,7 @@ pub(crate) fn stepped_by(s: Service, g: Registers, byte: u8) -> Registers
 }
 
 // The byte of that transfer is stored, where it goes to the memory.
+#[tactic(auto, unfolding(crate::specs::ClosedRegisters::stored_by, words::specs::Choice::when))]
 pub(crate) fn store_by(s: Service, g: Registers, memory: &mut [u8], byte: u8)
     requires { length memory.old ≡ 65536 }
     ensures { memory.new ≡ stored_by s g memory.old byte }
@@ -155,6 +152,7 @@ pub(crate) fn store_by(s: Service, g: Registers, memory: &mut [u8], byte: u8)
 }
 
 // The rules make a transfer next, whatever the device gives, in an open service of channel i.
+#[tactic(auto, unfolding(crate::specs::ClosedRegisters::flows, am9517_service::specs::Stops::dropped))]
 pub(crate) fn flows(c: Controller, i: usize) -> bool
     requires { (i < 4) × (i ≡ c.serving) }
     ensures { result ≡ flows c }

@@ -14,13 +14,12 @@ use Rattle.words.specs.Bytes.{byte_of, with_byte}
 use Rattle.words.specs.Steps.{stride, step, steps}
 use Rattle.am9517.specs.Fields.{make, put, but, blank, Field, Command, Pins, Lowest, Edition}
 use Rattle.am9517.specs.declared.Channel.{Channel}
-use Rattle.am9517.specs.declared.Answer.{Answer}
-use Rattle.am9517.specs.declared.Answer.TheVariants.{Value}
+use Rattle.am9517.specs.Answers.{Answer}
 use Rattle.am9517.specs.State.{fresh}
 use Rattle.am9517.specs.Ranges.{mode_valid, modes_valid, fields_valid, service_valid, valid}
 use Rattle.am9517.specs.Registers.{port_written, port_read, mode_written, after_write, value, after_read}
 use Rattle.am9517.specs.Serving.{active, request_counts, requests, entitled, set_of, status, picked_from, picked, granted}
-use Rattle.am9517.specs.Refusals.{refusal, idle, busy}
+use Rattle.am9517.specs.Refusals.{numbered, refusal, idle, busy}
 use Rattle.am9517.specs.Answers.{outcome, grant_of}
 use Rattle.am9517.specs.declared.Controller.{Controller}
 use Rattle.am9517_service.specs.World.{Stop, stop, start_of, with_controller, memory_to_memory}
@@ -31,7 +30,6 @@ use Rattle.am9517_service.specs.Copy.{copied}
 use Rattle.am9517_service.specs.Ends.{counting, finished, after_tc_or_eop, single}
 use Rattle.am9517_service.specs.Run.{transferred, run_of}
 use Rattle.am9517_service.specs.Answers.{given, stopped, refused_of, wrong_size, run_grounds, ran_of}
-use Rattle.words.specs.Spans.{least}
 use Rattle.am9517_service.specs.ClosedLegs.{address_after, current_after, entered, states_of, travelled, reached}
 use Rattle.am9517_service.specs.ClosedSpans.{until_end, stock_of}
 use Rattle.am9517_service.specs.declared.Reason.TheVariants.{Ended}
@@ -40,7 +38,7 @@ use Rattle.am9517_sheet.specs.declared.forms.Form.TheVariants.{One, Two}
 use Rattle.am9517_sheet.specs.Body.{body_of, exceeds, state_of}
 use Rattle.am9517_sheet.specs.declared.forms.Form.{Form}
 use Rattle.am9517_sheet.specs.Form.{other, sheet_size}
-use Rattle.am9517_sheet.specs.Sheet.{answer_of, sheet_of}
+use Rattle.am9517_sheet.specs.Sheet.{answer_of, sheet_of, sheet_write_grounds, sheet_read_grounds, sheet_faults}
 use Rattle.am9517_sheet.specs.Convert.{convert_grounds}
 use Rattle.demands.specs.Lists.{All, none, also}
 use Rattle.demands.specs.Operations.{Grant, Run, Round, SheetWriting, SheetReading, Converting, next, after_all, said}
@@ -52,6 +50,7 @@ use Rattle.am9517_service.proofs.AnswerLaws.{run_accepted}
 use Rattle.am9517_service.proofs.LegRunLaws.{run_ends}
 use Rattle.am9517_sheet.proofs.SheetLaws.{number_said}
 use Rattle.am9517_service.proofs.StatedLaws.{ran_told, round_told}
+use Rattle.std.proofs.Common.{Some, Ok}
 
 run_free : (s : Controller) (m : List ℕ) → valid s ≡ true → eqb s.in_service 0 ≡ false → length m ≡ 65536 → refusal (run_grounds s m) ≡ 0
 unfolding refusal first when
@@ -83,7 +82,7 @@ next_whole s m h = ran_by_lem s m [] (run_of 65536 0 [] (start_of s m [])) (vali
 abbrev to : Controller → ℕ → Granted
 to s n = record { before = s; channel = n }
 
-served : (m : List ℕ) → length m ≡ 65536 → (s t : Controller) (n k : ℕ) (gs : List Granted) → (grant_of s).answer ≡ Value n → ran_on (next s Grant) m ≡ t
+served : (m : List ℕ) → length m ≡ 65536 → (s t : Controller) (n k : ℕ) (gs : List Granted) → (grant_of s).answer ≡ Ok (Some n) → ran_on (next s Grant) m ≡ t
     → grants t (services m k) ≡ gs → grants s (services m (suc k)) ≡ to s n ∷ gs
 served m h s t n k gs a e rest =
     ap (λ (x : Answer). told s x ++ grants (next (next s Grant) (Run m [] [] 65536 0)) (services m k)) a
@@ -153,14 +152,14 @@ round_says s m d r k w e = round_told s m d r k ∙ ap (λ (t : Bool). when (not
 sheet_writing_says : (form : Form) (s : Controller) (out : List ℕ) (n : ℕ) → length out ≡ n
     → said s (SheetWriting form out) ≡ when (not (valid s)) 1 (when (ltb n (sheet_size form)) 9 (when (exceeds form s) 15 0))
 unfolding refusal first
-sheet_writing_says form s out n h = number_said _ ∙ ap (λ (k : ℕ). when (not (valid s)) 1 (when (ltb k (sheet_size form)) 9 (when (exceeds form s) 15 0))) h
+sheet_writing_says form s out n h = number_said (sheet_write_grounds form s (length out)) refl ∙ ap (λ (k : ℕ). when (not (valid s)) 1 (when (ltb k (sheet_size form)) 9 (when (exceeds form s) 15 0))) h
 
 sheet_reading_says : (form : Form) (s : Controller) (bytes : List ℕ) (n : ℕ) → length bytes ≡ n → n < sheet_size form → said s (SheetReading form bytes) ≡ 9
 unfolding refusal first
-sheet_reading_says form s bytes n h l = number_said _ ∙ when_hit (ltb (length bytes) (sheet_size form)) _ _ (lt-ltb (length bytes) (sheet_size form) (omega arith))
+sheet_reading_says form s bytes n h l = number_said (sheet_read_grounds form bytes) refl ∙ when_hit (ltb (length bytes) (sheet_size form)) 9 (first (sheet_faults form bytes) 0) (lt-ltb (length bytes) (sheet_size form) (omega arith))
 
 converting_says : (to : Form) (s : Controller) (source out : List ℕ) (n : ℕ) → length out ≡ n → said s (Converting to source out) ≡ refusal (convert_grounds (other to) to source n)
-converting_says to s source out n h = number_said _ ∙ ap (λ (k : ℕ). refusal (convert_grounds (other to) to source k)) h
+converting_says to s source out n h = number_said _ refl ∙ ap (λ (k : ℕ). refusal (convert_grounds (other to) to source k)) h
 
 -- 65,536 transfers, by the law of a service that ends with its n-th transfer
 module _ (a : ℕ) (below : a < 65536) (m : List ℕ) where
@@ -170,7 +169,7 @@ module _ (a : ℕ) (below : a < 65536) (m : List ℕ) where
   whole_run : run_of 65536 0 [] (start_of start m [])
       ≡ stop (with_controller (reached start m [] [] 65536) (finished (reached start m [] [] 65536).controller (reached start m [] [] 65536).controller.serving true false)) Ended
   unfolding
-      when ◌and◌ first mode_valid modes_valid fields_valid service_valid valid active request_counts entitled set_of picked_from picked granted refusal outcome memory_to_memory dropped least until_end stock_of
+      when ◌and◌ first mode_valid modes_valid fields_valid service_valid valid active request_counts entitled set_of picked_from picked granted refusal outcome memory_to_memory dropped until_end stock_of
   whole_run = run_ends start m [] [] 65536 0 refl refl refl below (omega arith) 65536 refl (omega arith)
 
 whole_cases : All Holds whole
@@ -218,7 +217,7 @@ requested_cases =
 
 limit_cases : All Holds limits
 unfolding
-    when ◌and◌ first mode_valid modes_valid fields_valid service_valid valid active request_counts entitled set_of picked_from picked granted refusal outcome answer_of total body_of state_of exceeds
+    when ◌and◌ first mode_valid modes_valid fields_valid service_valid valid active request_counts entitled set_of picked_from picked granted numbered refusal outcome answer_of total body_of state_of exceeds
 limit_cases =
     also (λ m h. refl)
     (also (λ m h. refl)
@@ -237,7 +236,7 @@ limit_cases =
 
 edition_cases : All Holds edition_limits
 unfolding
-    when ◌and◌ first mode_valid modes_valid fields_valid service_valid valid refusal outcome exceeds
+    when ◌and◌ first mode_valid modes_valid fields_valid service_valid valid numbered refusal outcome exceeds
 edition_cases =
     also (λ m h. refl)
     (also (λ m h. refl)
@@ -249,7 +248,7 @@ edition_cases =
 
 wait_cases : All Holds wait_limits
 unfolding
-    when ◌and◌ first mode_valid modes_valid fields_valid service_valid valid active request_counts entitled set_of picked_from picked granted refusal outcome exceeds
+    when ◌and◌ first mode_valid modes_valid fields_valid service_valid valid active request_counts entitled set_of picked_from picked granted numbered refusal outcome exceeds
 wait_cases =
     also (λ m h. refl)
     (also (λ m h. refl)
@@ -260,7 +259,7 @@ wait_cases =
 
 form_cases : All Holds form_limits
 unfolding
-    when ◌and◌ first mode_valid modes_valid fields_valid service_valid valid refusal answer_of total body_of state_of exceeds
+    when ◌and◌ first mode_valid modes_valid fields_valid service_valid valid numbered refusal answer_of total body_of state_of exceeds
 form_cases =
     also (λ m h. sheet_writing_says Two slow_intel m 57 h)
     (also (λ m h. sheet_writing_says Two slow_intel m 58 h)

@@ -1,15 +1,13 @@
 -- Demand 2, document 01's worked cases, and those of document 02's requests: "P1 to P9 are shown of the rules themselves, as one list under one statement."
-use Rattle.std.specs.Prelude.{ℕ, zero, suc, ◌+◌, ◌-◌, ◌≡◌, List, [], ◌∷◌, ◌++◌, length, get_or, set, replicate}
+use Rattle.std.specs.Prelude.{ℕ, zero, suc, ◌+◌, ◌-◌, ◌≡◌, List, [], ◌∷◌, ◌++◌, length, get_or, set, replicate, Some, Ok}
 use Rattle.am9517.specs.Editions.{number_of}
 use Rattle.am9517.specs.State.{fresh}
 use Rattle.am9517.specs.Fields.{make, put, blank, but, Field, Command, Tc, Mask, Temporary, Pins, Lowest, Edition, Waits}
 use Rattle.am9517.specs.Answers.{read_of}
 use Rattle.am9517.specs.declared.Channel.{Channel}
 use Rattle.am9517.specs.declared.Controller.{Controller}
-use Rattle.am9517.specs.declared.Answer.TheVariants.{Value}
 use Rattle.am9517.specs.declared.Edition.TheVariants.{Am9517A, Intel8237A}
 use Rattle.am9517_service.specs.declared.Reason.TheVariants.{Ended}
-use Rattle.am9517_service.specs.declared.RunAnswer.TheVariants.{Stopped}
 use Rattle.am9517_service.specs.Counts.{counts}
 use Rattle.am9517_service.specs.Answers.{Given, given, ran_of}
 use Rattle.am9517_sheet.specs.declared.forms.Form.TheVariants.{One, Two}
@@ -39,7 +37,7 @@ pub record Case : Type 0 where
 
 abbrev pub Meets : Controller → List Op → List ℕ → Expectation → Type 0
 Meets s ops m (Serves ns) = channels (grants s ops) ≡ ns
-Meets s ops m (Reads r b) = (read_of (after_all s ops) r).answer ≡ Value b
+Meets s ops m (Reads r b) = (read_of (after_all s ops) r).answer ≡ Ok (Some b)
 Meets s ops m (Gives d eop g) = ran_of (after_all s ops) m d [] 65536 eop ≡ g
 Meets s ops m (Says o n) = said (after_all s ops) o ≡ n
 
@@ -59,7 +57,7 @@ idle_with c0 c1 command tc mask temporary =
 -- "ended": the controller, transfers, device bytes used, states and the memory; no room was lent
 abbrev pub ends : Controller → ℕ → ℕ → ℕ → List ℕ → Given
 ends s transfers used states m =
-    given (record { controller = s; answer = Stopped Ended; counts = counts transfers used 0 states }) m []
+    given (record { controller = s; answer = Ok Ended; counts = counts transfers used 0 states }) m []
 
 -- channel 0 is granted from idle and run: its registers before and after, command, device bytes, EOP, TC bits and mask after,
 -- transfers, states, and the memory after

@@ -1,174 +1,135 @@
 // The program's arguments.
-ghost use Rattle.std.specs.Prelude.{◌≤◌};
+ghost use Rattle.std.specs.Prelude.{◌≤◌, IfSome};
 
-use console_files::say;
+use console_files::{Page, say};
 use console_judge::UNHEARD;
-use console_text::line::same;
 use std::env::{Env, FillError};
 use std::io::{ErrorKind, Print};
 
 // Room for an argument: one that is longer is taken for an empty one.
-pub(crate) type Argument = [u8; 4096];
+pub(crate) type Argument = Page<4096>;
 
 #[derive(Clone, Copy)]
 pub(crate) enum Asked {
     Run,
     Help,
     Version,
+}
+
+// What is wrong with the arguments.
+#[derive(Clone, Copy)]
+pub(crate) enum Wrong {
     Unknown(usize),
     TwoFiles,
     NoAnswers,
 }
 
-// What is asked for; how answers are told; which arguments name the script and the answers expected, 0 for none.
+// Standard input, or the file that this argument names.
+#[derive(Clone, Copy)]
+pub(crate) enum Named {
+    Input,
+    File(usize),
+}
+
+// What is asked for, by the last argument that counts; how answers are told; what is named as the script, and which argument names the
+// answers expected.
 #[derive(Clone, Copy)]
 pub(crate) struct Options {
-    pub asked: Asked,
+    pub asked: Result<Asked, Wrong>,
     pub is_explaining: bool,
     pub is_echoing: bool,
     pub is_reporting: bool,
-    pub is_input: bool,
-    pub script: usize,
-    pub answers: usize,
+    pub script: Option<Named>,
+    pub answers: Option<usize>,
 }
 
-fn start() -> Options {
-    let asked = Asked::Run;
-    Options {
-        asked,
-        is_explaining: false,
-        is_echoing: false,
-        is_reporting: false,
-        is_input: false,
-        script: 0,
-        answers: 0,
-    }
-}
-
-fn asking(options: Options, asked: Asked) -> Options {
-    Options {
-        asked,
-        is_explaining: options.is_explaining,
-        is_echoing: options.is_echoing,
-        is_reporting: options.is_reporting,
-        is_input: options.is_input,
-        script: options.script,
-        answers: options.answers,
-    }
-}
-
-// The script is named once at most.
-fn with_script(options: Options, i: usize, is_input: bool) -> Options {
-    if options.is_input | (options.script != 0) {
-        return asking(options, Asked::TwoFiles);
-    }
-    let mut next = options;
-    if is_input {
-        next.is_input = true;
-        return next;
-    }
-    next.script = i;
-    next
-}
-
-// An argument that begins with a dash.
-fn with_option(options: Options, word: &[u8], i: usize) -> Options {
-    let mut next = options;
-    if same(word, b"--explain") {
-        next.is_explaining = true;
-        return next;
-    }
-    if same(word, b"--echo") {
-        next.is_echoing = true;
-        return next;
-    }
-    // for the script that starts the program: it waits for a status
-    if same(word, b"--report") {
-        next.is_reporting = true;
-        return next;
-    }
-    if same(word, b"-") {
-        return with_script(options, i, true);
-    }
-    if same(word, b"--help") | same(word, b"-h") {
-        return asking(options, Asked::Help);
-    }
-    if same(word, b"--version") {
-        return asking(options, Asked::Version);
-    }
-    asking(options, Asked::Unknown(i))
-}
-
-fn with_word(options: Options, word: &[u8], i: usize) -> Options {
-    if word.len() > 0 {
-        if word[0] == b'-' {
-            return with_option(options, word, i);
+impl Options {
+    fn new() -> Options {
+        Options {
+            asked: Ok(Asked::Run),
+            is_explaining: false,
+            is_echoing: false,
+            is_reporting: false,
+            script: None,
+            answers: None,
         }
     }
-    with_script(options, i, false)
+
+    // The script is named once at most.
+    fn name_script(&mut self, named: Named) {
+        if self.script.is_some() {
+            self.asked = Err(Wrong::TwoFiles);
+        } else {
+            self.script = Some(named);
+        }
+    }
+
+    // Another argument than --expect and the one behind it.
+    fn take(&mut self, word: &[u8], i: usize) {
+        match word {
+            b"--explain" => self.is_explaining = true,
+            b"--echo" => self.is_echoing = true,
+            // for the script that starts the program: it waits for a status
+            b"--report" => self.is_reporting = true,
+            b"-" => self.name_script(Named::Input),
+            b"--help" | b"-h" => self.asked = Ok(Asked::Help),
+            b"--version" => self.asked = Ok(Asked::Version),
+            [b'-', ..] => self.asked = Err(Wrong::Unknown(i)),
+            _ => self.name_script(Named::File(i)),
+        }
+    }
 }
 
-// Puts the argument at the front of its array; its length, 0 where there is none.
-pub(crate) fn argument(rt: HostRuntime, i: usize, space: &mut Argument) -> usize
-    ensures { result ≤ 4096 }
-{
-    rt.arg(i, space).unwrap_or(0)
+// An empty one, where there is none.
+pub(crate) fn argument(rt: HostRuntime, i: usize) -> Argument {
+    let mut page: Argument = Page::new();
+    let n = rt.arg(i, &mut page.bytes).unwrap_or(0);
+    page.set_len(n);
+    page
+}
+
+fn is_missing(rt: HostRuntime, i: usize) -> bool {
+    let mut space = [0u8; 4096];
+    matches!(rt.arg(i, &mut space), Err(FillError::NotPresent))
 }
 
 // How many there are, with the program's name.
 pub(crate) fn argument_count(rt: HostRuntime) -> usize {
-    let mut space = [0u8; 4096];
-    for i in 0..usize::MAX {
-        if let Err(FillError::NotPresent) = rt.arg(i, &mut space) {
-            return i;
-        }
-    }
-    usize::MAX
+    (0..usize::MAX)
+        .position(|i| is_missing(rt, i))
+        .unwrap_or(usize::MAX)
 }
 
 fn is_word(rt: HostRuntime, i: usize, word: &[u8]) -> bool {
-    let mut space = [0u8; 4096];
-    let n = argument(rt, i, &mut space);
-    same(&space[..n], word)
+    argument(rt, i).as_slice() == word
 }
 
-fn is_expect(rt: HostRuntime, i: usize) -> bool {
-    is_word(rt, i, b"--expect")
-}
-
-// Where --judge stands, which is first or behind --report; 0 for nowhere.
-pub(crate) fn judge_at(rt: HostRuntime) -> usize {
+// Where --judge stands, which is first or behind --report.
+pub(crate) fn judge_at(rt: HostRuntime) -> Option<usize>
+    ensures { IfSome result (λ at. at ≤ 2) }
+{
     if is_word(rt, 1, b"--judge") {
-        return 1;
+        return Some(1);
     }
-    if is_word(rt, 1, b"--report") & is_word(rt, 2, b"--judge") {
-        return 2;
+    if is_word(rt, 1, b"--report") && is_word(rt, 2, b"--judge") {
+        return Some(2);
     }
-    0
-}
-
-fn with_argument(rt: HostRuntime, options: Options, i: usize) -> Options {
-    let mut space = [0u8; 4096];
-    let n = argument(rt, i, &mut space);
-    with_word(options, &space[..n], i)
+    None
 }
 
 // The arguments one by one; behind --expect stands the name of the answers.
 pub(crate) fn read_options(rt: HostRuntime) -> Options {
-    let mut options = start();
-    let mut is_name = false;
-    for i in 1..argument_count(rt) {
-        if is_name {
-            options.answers = i;
-            is_name = false;
-        } else if is_expect(rt, i) {
-            is_name = true;
+    let mut options = Options::new();
+    let mut places = 1..argument_count(rt);
+    while let Some(i) = places.next() {
+        let word = argument(rt, i);
+        if word.as_slice() != b"--expect".as_slice() {
+            options.take(word.as_slice(), i);
+        } else if let Some(name) = places.next() {
+            options.answers = Some(name);
         } else {
-            options = with_argument(rt, options, i);
+            options.asked = Err(Wrong::NoAnswers);
         }
-    }
-    if is_name {
-        return asking(options, Asked::NoAnswers);
     }
     options
 }
@@ -176,13 +137,8 @@ pub(crate) fn read_options(rt: HostRuntime) -> Options {
 // The status; a full disk doesn't change it.
 fn tell(rt: HostRuntime, words: &[u8]) -> u8 {
     match rt.write_all(words) {
-        Ok(()) => 0,
-        Err(error) => {
-            if error.kind() == ErrorKind::BrokenPipe {
-                return UNHEARD;
-            }
-            0
-        }
+        Err(error) if error.kind() == ErrorKind::BrokenPipe => UNHEARD,
+        _ => 0,
     }
 }
 
@@ -212,17 +168,22 @@ a log that judging it was refused or a file failed.
     )
 }
 
-// What is wrong with the arguments.
 pub(crate) fn complain_of(rt: HostRuntime, words: &[u8]) {
     say(rt, b"rack: ");
     say(rt, words);
     say(rt, b" (--help tells more)\n");
 }
 
-pub(crate) fn complain_of_unknown(rt: HostRuntime, i: usize) {
-    let mut space = [0u8; 4096];
-    let n = argument(rt, i, &mut space);
-    say(rt, b"rack: ");
-    say(rt, &space[..n]);
-    say(rt, b" is unknown (--help tells more)\n");
+impl Wrong {
+    pub(crate) fn say(self, rt: HostRuntime) {
+        match self {
+            Wrong::Unknown(i) => {
+                say(rt, b"rack: ");
+                say(rt, argument(rt, i).as_slice());
+                say(rt, b" is unknown (--help tells more)\n");
+            }
+            Wrong::TwoFiles => complain_of(rt, b"one file at most"),
+            Wrong::NoAnswers => complain_of(rt, b"behind --expect stands a file of answers"),
+        }
+    }
 }

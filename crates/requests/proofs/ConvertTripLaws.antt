@@ -5,7 +5,6 @@ use mathlib.Core.List.{List, ◌++◌}
 use lib.ListN.{length, take}
 use Rattle.am9517.specs.Refusals.{refusal}
 use Rattle.am9517.specs.declared.Controller.{Controller}
-use Rattle.am9517_sheet.specs.declared.SheetAnswer.TheVariants.{Done}
 use Rattle.am9517_sheet.specs.declared.SheetRead.{SheetRead}
 use Rattle.am9517_sheet.specs.declared.forms.Form.{Form}
 use Rattle.am9517_sheet.specs.Bytes.{last, OfBytes}
@@ -17,12 +16,13 @@ use Rattle.am9517_sheet.proofs.BodyLaws.{told_within}
 use Rattle.am9517_sheet.proofs.SheetLaws.{none_refuses, write_done, write_free, read_done, read_room, read_faults, read_valid}
 use Rattle.am9517_sheet.proofs.TripLaws.{written_read_lem, read_copied_lem}
 use Rattle.am9517_sheet.proofs.ConvertLaws.{convert_given, convert_done, convert_free}
+use Rattle.std.proofs.Common.{Ok}
 
 four_told : (form : Form) (sheet : List ℕ) → length (state_of form sheet).channels ≡ 4
 unfolding state_of
 four_told form sheet = refl
 
-module _ (from to : Form) (source out : List ℕ) (done : (rewritten from to source out).answer ≡ Done) where
+module _ (from to : Form) (source out : List ℕ) (done : (rewritten from to source out).answer ≡ Ok tt) where
   free : refusal (convert_grounds from to source (length out)) ≡ 0
   free = none_refuses _ done
 
@@ -37,14 +37,14 @@ module _ (from to : Form) (source out : List ℕ) (done : (rewritten from to sou
       convert_done from to source out 0 free refl
       ∙ sym (write_done to (told_in from source) out (write_free to (told_in from source) (length out) (read_valid from source source_read) given.there given.within))
 
-  pub convert_told : (u : Controller) → sheet_read_of to u (rewritten from to source out).bytes ≡ record { controller = told_in from source; answer = Done }
+  pub convert_told : (u : Controller) → sheet_read_of to u (rewritten from to source out).bytes ≡ record { controller = told_in from source; answer = Ok tt }
   convert_told u =
       ap (λ (w : Stored). sheet_read_of to u w.bytes) convert_writes
       ∙ written_read_lem to (told_in from source) u out (four_told from _) (sym (ap (λ (w : Stored). w.answer) convert_writes) ∙ done)
 
   -- there and back
   pub convert_back : (again : List ℕ) → OfBytes source → sheet_size from ≤ length again
-      → rewritten to from (rewritten from to source out).bytes again ≡ stored Done (take (length again - sheet_size from) again ++ last (sheet_size from) source)
+      → rewritten to from (rewritten from to source out).bytes again ≡ stored (Ok tt) (take (length again - sheet_size from) again ++ last (sheet_size from) source)
   convert_back again byte room =
       let mid = (rewritten from to source out).bytes in
       let t = told_in from source in

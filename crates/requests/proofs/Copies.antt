@@ -18,7 +18,6 @@ use Rattle.am9517.specs.State.{ended}
 use Rattle.am9517.specs.Modes.{address_hold, autoinitialize}
 use Rattle.am9517.specs.declared.Channel.{Channel}
 use Rattle.am9517.specs.declared.Controller.{Controller}
-use Rattle.am9517_service.specs.declared.RunAnswer.TheVariants.{Stopped}
 use Rattle.am9517_service.specs.declared.spans.Span.{Span}
 use Rattle.am9517_service.specs.Counts.{counts}
 use Rattle.am9517_service.specs.World.{World, start_of, Stop, memory_to_memory}
@@ -37,6 +36,7 @@ use Rattle.am9517_service.proofs.RunLaws.{transferred_copied}
 use Rattle.am9517_service.proofs.CopySourceLaws.{source_mode, source_none, source_more}
 use Rattle.am9517_service.proofs.CopyLegLaws.{copy_run}
 use Rattle.requests.specs.Copies.{Copies, ChannelZero, EndsAlike, CopyLoop}
+use Rattle.std.proofs.Common.{Ok}
 
 -- bit 0 where another one is set
 bit_0_kept : (b : ℕ) (v : Bool) → bit (with_bit b 1 v) 0 ≡ bit b 0
@@ -141,7 +141,7 @@ module _ (c : Controller) (m d r : List ℕ) (limit eop : ℕ) (k : Copies c m) 
   s = copy_span (channel c 1).count limit eop
 
   abbrev given : Span → Given → Type 0
-  given x g = (g.ran.answer ≡ Stopped x.why) × (g.ran.counts ≡ counts x.transfers 0 0 (x.transfers * copy_pace c.waits))
+  given x g = (g.ran.answer ≡ Ok x.why) × (g.ran.counts ≡ counts x.transfers 0 0 (x.transfers * copy_pace c.waits))
 
   none_spent : 0 ≡ 0 * copy_pace c.waits
   none_spent = omega arith
@@ -150,13 +150,13 @@ module _ (c : Controller) (m d r : List ℕ) (limit eop : ℕ) (k : Copies c m) 
   unfolding stopped
   stops_by zero e =
       let led = copy_run c m d r limit eop k.copy below small in (
-        ap (λ (x : Stop). Stopped x.reason) (led.stood e),
+        ap (λ (x : Stop). (Ok x.reason)) (led.stood e),
         ap (λ (x : Stop). x.world.counts) (led.stood e) ∙ ap (counts 0 0 0) none_spent ∙ ap (λ (n : ℕ). counts n 0 0 (n * copy_pace c.waits)) (sym e),
       )
   stops_by (suc n) e =
       let led = copy_run c m d r limit eop k.copy below small in
       let some = led.some (omega (arith, e)) in
-      (ap (λ (x : Stop). Stopped x.reason) some, ap (λ (x : Stop). x.world.counts) some)
+      (ap (λ (x : Stop). (Ok x.reason)) some, ap (λ (x : Stop). x.world.counts) some)
 
   pub stops_so : given s (ran_of c m d r limit eop)
   stops_so = rw (run_accepted c m d r limit eop k.accepted) (stops_by s.transfers refl)
@@ -168,7 +168,7 @@ ends_alike c m d r limit eop k below small other k' =
     let span : copy_span (channel (with_channel c 0 other) 1).count limit eop ≡ copy_span (channel c 1).count limit eop = ap (λ (x : Channel). copy_span x.count limit eop) there in
     let one = stops_so c m d r limit eop k below small in
     let two = stops_so (with_channel c 0 other) m d r limit eop k' (rw there below) (rw there small) in (
-      two.0 ∙ ap (λ (x : Span). Stopped x.why) span ∙ sym one.0,
+      two.0 ∙ ap (λ (x : Span). (Ok x.why)) span ∙ sym one.0,
       two.1 ∙ ap (λ (x : Span). counts x.transfers 0 0 (x.transfers * copy_pace c.waits)) span ∙ sym one.1,
     )
 

@@ -14,11 +14,12 @@ use Rattle.am9517_service.specs.World.{start_of, with_controller, Stop, stop}
 use Rattle.am9517_service.specs.Ends.{counting}
 use Rattle.am9517_service.specs.Run.{run_of}
 use Rattle.am9517_service.specs.Round.{Course, course, run_next, with_run, after_next, is_ended, Close, close, round_of}
-use Rattle.am9517_service.specs.declared.RoundAnswer.TheVariants as round
 use Rattle.demands.specs.Operations.{next}
 use Rattle.words.proofs.ChoiceLaws.{when_over}
 use Rattle.requests.proofs.LastLaws.{next_lasts}
 use Rattle.requests.proofs.EditionRunLaws.{in_world, in_stop, run_in}
+use Rattle.std.proofs.Common.{Ok}
+use Rattle.am9517_service.specs.declared.RoundEnd.TheVariants.{Done, Quiet, Stopped}
 
 -- A round: its course in this edition.
 abbrev pub in_course : ℕ → Course → Course
@@ -62,9 +63,9 @@ module _ (d : List ℕ) where
 
   -- one service of a round, and the rest of it
   unfoldable pub turn : Course → Course → ℕ → Stop → Close → Close
-  turn x v next s rest = first (close x round.Quiet if eqb next 4 ∷ []) (first (close v (round.Stopped s.reason) if not (is_ended s.reason) ∷ []) rest)
+  turn x v next s rest = first (close x (Ok Quiet) if eqb next 4 ∷ []) (first (close v (Ok (Stopped s.reason)) if not (is_ended s.reason) ∷ []) rest)
 
-  pub round_over : (w : Course) → round_of 0 d w ≡ close w round.Done
+  pub round_over : (w : Course) → round_of 0 d w ≡ close w (Ok Done)
   unfolding round_of
   round_over w = refl
 

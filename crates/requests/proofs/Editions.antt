@@ -17,19 +17,16 @@ use Rattle.am9517.specs.Modes.{mode_refused}
 use Rattle.am9517.specs.Ranges.{mode_valid, modes_valid, fields_valid, service_valid, valid}
 use Rattle.am9517.specs.Serving.{active, request_counts, requests, set_of, status, picked, granted}
 use Rattle.am9517.specs.Registers.{port_written, mode_written, after_write, port_read, value, after_read}
-use Rattle.am9517.specs.Refusals.{refusal, idle, busy, unreadable, unwritable, write_grounds, read_grounds, pins_grounds, reset_grounds, waits_grounds, grant_grounds}
+use Rattle.am9517.specs.Refusals.{numbered, refused, refusal, idle, busy, unreadable, unwritable, write_grounds, read_grounds, pins_grounds, reset_grounds, waits_grounds, grant_grounds}
 use Rattle.am9517.specs.Answers.{outcome, write_of}
 use Rattle.am9517.specs.declared.Controller.{Controller}
 use Rattle.am9517.specs.declared.Outcome.{Outcome}
-use Rattle.am9517.specs.declared.Answer.{Answer}
-use Rattle.am9517.specs.declared.Answer.TheVariants.{Done, Value, Refused}
 use Rattle.am9517_service.specs.World.{start_of, Stop}
 use Rattle.am9517_service.specs.Ends.{counting}
 use Rattle.am9517_service.specs.Run.{run_of}
 use Rattle.am9517_service.specs.Answers.{Given, given, stopped, refused_of, wrong_size, run_grounds, ran_of}
 use Rattle.am9517_service.specs.RoundAnswers.{RoundGiven, round_given, closed, round_grounds, rounded_of}
 use Rattle.am9517_service.specs.Round.{beginning, Close, close, round_of}
-use Rattle.am9517_service.specs.declared.RoundAnswer.TheVariants as round
 use Rattle.am9517_sheet.specs.declared.forms.Form.TheVariants.{Two}
 use Rattle.am9517_sheet.specs.Body.{exceeds, state_of}
 use Rattle.am9517_sheet.specs.Sheet.{answer_of, sheet_in, sheet_read_grounds}
@@ -38,10 +35,12 @@ use Rattle.requests.specs.Editions.{ours, intel, Told, RunTold, RoundTold, Sheet
 use Rattle.words.proofs.ChoiceLaws.{when_over}
 use Rattle.words.proofs.GroundLaws.{first_over}
 use Rattle.am9517_service.proofs.AnswerLaws.{run_refused, run_accepted}
+use Rattle.demands.proofs.Refusals.{refused_some}
 use Rattle.demands.proofs.Sheets.{zero_written, other_refused}
 use Rattle.requests.proofs.LastLaws.{edition_kept}
 use Rattle.requests.proofs.EditionRunLaws.{marked, meets, in_stop, Ahead, not_yet, run_in}
 use Rattle.requests.proofs.EditionRoundLaws.{in_close, picked_in, granted_in, round_in}
+use Rattle.std.proofs.Common.{Option, Some, None, Ok, Err}
 
 -- no range tells the two editions apart
 valid_in : (s : Controller) → valid (intel s) ≡ valid (ours s)
@@ -55,7 +54,7 @@ module _ (s : Controller) where
     says : o'.answer ≡ o.answer
     leaves : intel o'.controller ≡ intel o.controller
 
-  alike : (n n' : ℕ) (t t' : Controller) (a a' : Answer) → n' ≡ n → t' ≡ intel t → a' ≡ a → Alike (outcome n (ours s) t a) (outcome n' (intel s) t' a')
+  alike : (n n' : ℕ) (t t' : Controller) (a a' : Option ℕ) → n' ≡ n → t' ≡ intel t → a' ≡ a → Alike (outcome n (ours s) t a) (outcome n' (intel s) t' a')
   unfolding outcome
   alike n n' t t' a a' en et ea =
       rw (en, et, ea) (record { says = refl; leaves = ap intel (when_over intel (eqb n 0) {a = t} {b = ours s} (λ e. refl) (λ e. refl)) })
@@ -135,8 +134,8 @@ module _ (s : Controller) (m d r : List ℕ) (limit eop : ℕ) where
           ∙ stopped_in (run_of limit eop d (start_of (ours s) m r))
           ∙ ap marked_given (sym (run_accepted (ours s) m d r limit eop free))
       go false e =
-          let refused = eqb-false n 0 e in
-          run_refused (intel s) m d r limit eop n run_number refused ∙ refused_in_lem n ∙ ap marked_given (sym (run_refused (ours s) m d r limit eop n refl refused))
+          let no = refused_some n (eqb-false n 0 e) in
+          run_refused (intel s) m d r limit eop (numbered n) (ap refused run_number ∙ no) ∙ refused_in_lem n ∙ ap marked_given (sym (run_refused (ours s) m d r limit eop (numbered n) no))
 
   abbrev ran_transfers : ℕ
   ran_transfers = (ran_of (ours s) m d r limit eop).ran.counts.transfers
@@ -183,7 +182,7 @@ module _ (s : Controller) (m d r : List ℕ) (k : ℕ) where
       rw round_number
       (when_over intel_given (eqb (refusal (round_grounds (ours s) m k)) 0)
       (λ e. ap closed (round_in d k (beginning s m r)) ∙ closed_in (round_of k d (beginning (ours s) m r)))
-      (λ e. closed_in (close (beginning (ours s) m r) (round.Refused (refusal (round_grounds (ours s) m k))))))
+      (λ e. closed_in (close (beginning (ours s) m r) (Err (numbered (refusal (round_grounds (ours s) m k)))))))
 
   round_shared : SameInBoth s (Round m d r k)
   round_shared =
@@ -206,17 +205,17 @@ read_sheet_lem s told false = refl
 
 shared : (s : Controller) (op : Op) → Shared s op → SameInBoth s op
 shared s (Write r b) h =
-    let p = alike s _ _ _ _ Done Done (write_number s r b h) (write_in s r b) refl in record { says = accessed s _ _ p; leaves = access_leaves s _ _ p }
+    let p = alike s _ _ _ _ None None (write_number s r b h) (write_in s r b) refl in record { says = accessed s _ _ p; leaves = access_leaves s _ _ p }
 shared s (Read r) h =
-    let p = alike s _ _ _ _ (Value (value (ours s) r)) (Value (value (intel s) r)) (read_number s r) (read_in s r) (ap Value (value_in s r)) in record { says = accessed s _ _ p; leaves = access_leaves s _ _ p }
+    let p = alike s _ _ _ _ (Some (value (ours s) r)) (Some (value (intel s) r)) (read_number s r) (read_in s r) (ap (λ (v : ℕ). Some v) (value_in s r)) in record { says = accessed s _ _ p; leaves = access_leaves s _ _ p }
 shared s (Pins p) h =
-    let q = alike s _ _ (put (ours s) fields.Pins p) (put (intel s) fields.Pins p) Done Done (pins_number s p) refl refl in record { says = accessed s _ _ q; leaves = access_leaves s _ _ q }
+    let q = alike s _ _ (put (ours s) fields.Pins p) (put (intel s) fields.Pins p) None None (pins_number s p) refl refl in record { says = accessed s _ _ q; leaves = access_leaves s _ _ q }
 shared s Reset h =
-    let p = alike s _ _ (cleared (ours s)) (cleared (intel s)) Done Done (reset_number s) refl refl in record { says = accessed s _ _ p; leaves = access_leaves s _ _ p }
+    let p = alike s _ _ (cleared (ours s)) (cleared (intel s)) None None (reset_number s) refl refl in record { says = accessed s _ _ p; leaves = access_leaves s _ _ p }
 shared s (Waits n) h =
-    let p = alike s _ _ (put (ours s) fields.Waits n) (put (intel s) fields.Waits n) Done Done (waits_number s) refl refl in record { says = accessed s _ _ p; leaves = access_leaves s _ _ p }
+    let p = alike s _ _ (put (ours s) fields.Waits n) (put (intel s) fields.Waits n) None None (waits_number s) refl refl in record { says = accessed s _ _ p; leaves = access_leaves s _ _ p }
 shared s Grant h =
-    let p = alike s _ _ _ _ (Value (picked (ours s))) (Value (picked (intel s))) (grant_number s) (grant_in s) (ap Value (same_pick s)) in record { says = accessed s _ _ p; leaves = access_leaves s _ _ p }
+    let p = alike s _ _ _ _ (Some (picked (ours s))) (Some (picked (intel s))) (grant_number s) (grant_in s) (ap (λ (v : ℕ). Some v) (same_pick s)) in record { says = accessed s _ _ p; leaves = access_leaves s _ _ p }
 shared s (Run m d r limit eop) h = run_shared s m d r limit eop h
 shared s (Round m d r k) h = round_shared s m d r k
 shared s (SheetWriting form out) h = absurd h
@@ -231,10 +230,10 @@ e_number s b v i =
     ap (λ (t : Bool). number t s.in_service) v ∙ ap (number true) i
 
 register_e_lem : (s : Controller) (b : ℕ) → valid (intel s) ≡ true → s.in_service ≡ 0
-    → (write_of (intel s) 0xE b ≡ record { controller = put (intel s) Mask 0; answer = Done }) × (write_of (ours s) 0xE b ≡ record { controller = ours s; answer = Refused 4 })
+    → (write_of (intel s) 0xE b ≡ record { controller = put (intel s) Mask 0; answer = Ok None }) × (write_of (ours s) 0xE b ≡ record { controller = ours s; answer = Err (numbered 4) })
 unfolding outcome first when after_write
 register_e_lem s b v i =
-    (ap (λ (n : ℕ). outcome n (intel s) (after_write (intel s) 0xE b) Done) (e_number (intel s) b v i), ap (λ (n : ℕ). outcome n (ours s) (after_write (ours s) 0xE b) Done) (e_number (ours s) b (sym (valid_in s) ∙ v) i))
+    (ap (λ (n : ℕ). outcome n (intel s) (after_write (intel s) 0xE b) None) (e_number (intel s) b v i), ap (λ (n : ℕ). outcome n (ours s) (after_write (ours s) 0xE b) None) (e_number (ours s) b (sym (valid_in s) ∙ v) i))
 
 same_answer : (s : Controller) (out : List ℕ) → reply (intel s) (SheetWriting Two out) ≡ reply (ours s) (SheetWriting Two out)
 unfolding exceeds

@@ -10,7 +10,7 @@ use Rattle.am9517.specs.Answers.{outcome}
 use Rattle.am9517.specs.Refusals.{refusal, waits_grounds}
 use Rattle.am9517.specs.Registers.{port_written, mode_written, after_write, after_read}
 use Rattle.am9517.specs.Serving.{picked, granted}
-use Rattle.am9517.specs.declared.Answer.{Answer}
+use Rattle.std.proofs.Common.{Option}
 use Rattle.am9517.specs.declared.Controller.{Controller}
 use Rattle.am9517_service.specs.World.{World, start_of, memory_to_memory, Stop}
 use Rattle.am9517_service.specs.Transfer.{moved}
@@ -68,7 +68,7 @@ module _ (d : List ℕ) where
 
 -- the operations
 module _ (s : Controller) where
-  outcome_lasts : (n : ℕ) (t : Controller) (a : Answer) → Lasts s t → Lasts s (outcome n s t a).controller
+  outcome_lasts : (n : ℕ) (t : Controller) (a : Option ℕ) → Lasts s t → Lasts s (outcome n s t a).controller
   unfolding outcome
   outcome_lasts n t a h = when_both (Lasts s) (eqb n 0) h (refl, refl)
 

@@ -15,6 +15,7 @@ use Rattle.logs.specs.Answers.{JudgeGiven, told, judged_of}
 use Rattle.words.proofs.ChoiceLaws.{when_both}
 use Rattle.logs.proofs.KeepLaws.{judged_keeps}
 use Rattle.logs.proofs.AnswerLaws.{refused_by, stated}
+use Rattle.demands.proofs.Refusals.{refused_some}
 use Rattle.requests.specs.Logs.{Refuses, Keeps, LogsJudged}
 use Rattle.requests.proofs.LastLaws.{Lasts, lasts_then, run_lasts}
 use Rattle.requests.proofs.LogFirstLaws.{first_wrong, nothing_back, error_told, error_in_range}
@@ -25,7 +26,7 @@ use Rattle.requests.proofs.TellLaws.{record_tells}
 use Rattle.requests.proofs.LogSizeLaws.{log_counted, none_judged, silent_judged}
 
 refuses : (c : Controller) (m log : List ℕ) → Refuses c m log
-refuses c m log = record { refused = λ h. sym (refused_by c m log _ refl h); number = (stated c m log _ _ refl).1 }
+refuses c m log = record { refused = λ h. sym (refused_by c m log _ (refused_some _ h)); number = (stated c m log _ _ refl).1 }
 
 -- the edition and the wait states, record by record
 judged_lasts : (n : ℕ) (c : Controller) (m log : List ℕ) → Lasts c (judged n c m log).controller

@@ -18,23 +18,25 @@ use Rattle.logs.specs.declared.Verdict.TheVariants.{Accepted, Wrong, Refused}
 use Rattle.logs.specs.Judge.{Found, judged}
 use Rattle.logs.specs.Answers.{JudgeGiven, verdict_of, told, judged_of}
 use Rattle.logs.proofs.AnswerLaws.{refused_by}
+use Rattle.demands.proofs.Refusals.{refused_some}
 use Rattle.requests.specs.Logs.{verdict, says}
 
 -- verdicts told apart, and taken apart
+
 abbrev pub sort : Verdict → ℕ
 sort Accepted = 0
 sort (Wrong at error) = 1
-sort (Refused n) = 2
+sort (Refused r) = 2
 
 abbrev place_in : Verdict → ℕ
 place_in Accepted = 0
 place_in (Wrong at error) = at
-place_in (Refused n) = 0
+place_in (Refused r) = 0
 
 abbrev error_in : Verdict → ℤ
 error_in Accepted = pos 0
 error_in (Wrong at error) = error
-error_in (Refused n) = pos 0
+error_in (Refused r) = pos 0
 
 module _ (size : ℕ) (f : Found) where
   pub all_right : verdict_of size f ≡ Accepted → f.place ≡ size
@@ -75,7 +77,7 @@ module _ (c : Controller) (m log : List ℕ) where
     where
       go : (t : Bool) → eqb (refusal (run_grounds c m)) 0 ≡ t → refusal (run_grounds c m) ≡ 0
       go true e = eqb-true _ _ e
-      go false e = absurd (h (ap (λ (g : JudgeGiven). sort (verdict g)) (sym (refused_by c m log _ refl (eqb-false _ _ e)))))
+      go false e = absurd (h (ap (λ (g : JudgeGiven). sort (verdict g)) (sym (refused_by c m log _ (refused_some _ (eqb-false _ _ e))))))
 
   module _ (free : refusal (run_grounds c m) ≡ 0) where
     pub verdict_is : verdict (judged_of c m log) ≡ verdict_of (length log) at_all

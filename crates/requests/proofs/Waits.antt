@@ -11,7 +11,6 @@ use Rattle.words.specs.Grounds.{◌if◌, first}
 use Rattle.am9517.specs.Ranges.{mode_valid, modes_valid, fields_valid, service_valid, valid}
 use Rattle.am9517.specs.Refusals.{refusal, idle, busy}
 use Rattle.am9517.specs.Answers.{outcome, waits_of}
-use Rattle.am9517.specs.declared.Answer.TheVariants.{Done}
 use Rattle.am9517.specs.declared.Controller.{Controller}
 use Rattle.am9517_service.specs.Counts.{counts}
 use Rattle.am9517_service.specs.World.{start_of, Stop}
@@ -19,19 +18,20 @@ use Rattle.am9517_service.specs.Run.{run_of}
 use Rattle.am9517_service.specs.Answers.{given, stopped, refused_of, wrong_size, run_grounds, ran_of}
 use Rattle.am9517_service.specs.Round.{beginning, Close, close, round_of}
 use Rattle.am9517_service.specs.RoundAnswers.{closed, round_grounds, rounded_of}
-use Rattle.am9517_service.specs.declared.RoundAnswer.TheVariants as round
 use Rattle.requests.specs.Waits.{waiting, more, ran_slower, unhurried, SlowCards}
 use Rattle.words.proofs.ChoiceLaws.{when_over}
 use Rattle.requests.proofs.LastLaws.{waits_kept}
 use Rattle.requests.proofs.SlowRunLaws.{slow_stop}
 use Rattle.requests.proofs.SlowRoundLaws.{started_slow, bare_close, round_bare}
+use Rattle.std.proofs.Common.{None, Ok, Err}
+use Rattle.am9517.specs.Refusals.{numbered}
 
 -- no range speaks of wait states
 valid_waiting : (n : ℕ) (s : Controller) → valid (waiting n s) ≡ valid s
 unfolding ◌and◌ mode_valid modes_valid fields_valid service_valid valid
 valid_waiting n s = refl
 
-taken_when_idle : (s : Controller) (n : ℕ) → valid s ≡ true → s.in_service ≡ 0 → waits_of s n ≡ record { controller = waiting n s; answer = Done }
+taken_when_idle : (s : Controller) (n : ℕ) → valid s ≡ true → s.in_service ≡ 0 → waits_of s n ≡ record { controller = waiting n s; answer = Ok None }
 unfolding outcome refusal first when
 taken_when_idle s n v i = simp (v, eq-eqb _ _ i)
 
@@ -72,9 +72,9 @@ module _ (s : Controller) (m d r : List ℕ) (k : ℕ) where
       both : (x y : Close) → bare_close x ≡ bare_close y → unhurried (closed x) ≡ unhurried (closed y)
       both x y e = closed_bare x ∙ ap closed e ∙ sym (closed_bare y)
 
-      go : (t : Bool) → unhurried (when t (closed (round_of k d (beginning s m r))) (closed (close (beginning s m r) (round.Refused n)))) ≡ unhurried (when t (closed (round_of k d (beginning (waiting 0 s) m r))) (closed (close (beginning (waiting 0 s) m r) (round.Refused n))))
+      go : (t : Bool) → unhurried (when t (closed (round_of k d (beginning s m r))) (closed (close (beginning s m r) (Err (numbered n))))) ≡ unhurried (when t (closed (round_of k d (beginning (waiting 0 s) m r))) (closed (close (beginning (waiting 0 s) m r) (Err (numbered n)))))
       go true = both _ _ (round_bare d k (beginning s m r))
-      go false = both (close (beginning s m r) (round.Refused n)) (close (beginning (waiting 0 s) m r) (round.Refused n)) refl
+      go false = both (close (beginning s m r) (Err (numbered n))) (close (beginning (waiting 0 s) m r) (Err (numbered n))) refl
 
 pub slow_cards_lem : SlowCards
 slow_cards_lem = record { fresh = λ e. refl; taken = taken_when_idle; kept = waits_kept; run = ran_slow; round = rounded_slow }

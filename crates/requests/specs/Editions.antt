@@ -1,28 +1,27 @@
 -- Document 02, A2: "What both editions share is shown once." How little differs: one state, as an Am9517A's and as an Intel chip's, does the same in
 -- every operation but a write of register E, a run that meets external EOP, and the writing of a sheet.
-use Rattle.std.specs.Prelude.{ℕ, ◌≤◌, ◌<◌, ◌≡◌, true, List, length}
+use Rattle.std.specs.Prelude.{ℕ, ◌≤◌, ◌<◌, ◌≡◌, true, List, length, None, Ok, Err}
 use Rattle.words.specs.Bits.{with_bit}
 use Rattle.am9517.specs.Editions.{number_of}
 use Rattle.am9517.specs.Fields.{put, Edition, Mask, Tc}
 use Rattle.am9517.specs.Ranges.{valid}
 use Rattle.am9517.specs.Answers.{write_of, read_of, pins_of, reset_of, waits_of, grant_of}
-use Rattle.am9517.specs.declared.Answer.{Answer}
-use Rattle.am9517.specs.declared.Answer.TheVariants.{Done, Refused}
+use Rattle.am9517.specs.Answers.{Answer}
 use Rattle.am9517.specs.declared.Controller.{Controller}
 use Rattle.am9517.specs.declared.Edition.TheVariants.{Am9517A, Intel8237A}
 use Rattle.am9517_service.specs.declared.Counts.{Counts}
-use Rattle.am9517_service.specs.declared.RoundAnswer.{RoundAnswer}
-use Rattle.am9517_service.specs.declared.RunAnswer.{RunAnswer}
+use Rattle.am9517_service.specs.Round.{RoundAnswer}
+use Rattle.am9517_service.specs.Answers.{RunAnswer}
 use Rattle.am9517_service.specs.Ends.{counting}
 use Rattle.am9517_service.specs.Answers.{ran_of}
 use Rattle.am9517_service.specs.RoundAnswers.{rounded_of}
-use Rattle.am9517_sheet.specs.declared.SheetAnswer.{SheetAnswer}
-use Rattle.am9517_sheet.specs.declared.SheetAnswer.TheVariants as sheet
+use Rattle.am9517_sheet.specs.Sheet.{SheetAnswer}
 use Rattle.am9517_sheet.specs.declared.forms.Form.{Form}
 use Rattle.am9517_sheet.specs.declared.forms.Form.TheVariants.{One, Two}
 use Rattle.am9517_sheet.specs.Sheet.{stored, sheet_write_of, sheet_read_of}
 use Rattle.am9517_sheet.specs.Convert.{convert_of}
 use Rattle.demands.specs.Operations.{Op, Write, Read, Pins, Reset, Waits, Grant, Run, Round, SheetWriting, SheetReading, Converting, Scene, scene, after, next}
+use Rattle.am9517.specs.Refusals.{numbered}
 
 -- the state as an Am9517A's, and as an Intel chip's
 abbrev pub ours : Controller → Controller
@@ -90,8 +89,8 @@ pub record EditionsDiffer : Type 0 where
   pub kept : (s : Controller) (op : Op) → ((form : Form) (bytes : List ℕ) → ¬ (op ≡ SheetReading form bytes)) → (next s op).edition ≡ s.edition
   -- "There, a write of register E clears all four mask bits", whatever the byte, of an idle state in its ranges; ours refuses it.
   pub register_e : (s : Controller) (b : ℕ) → valid (intel s) ≡ true → s.in_service ≡ 0
-      → (write_of (intel s) 0xE b ≡ record { controller = put (intel s) Mask 0; answer = Done })
-      × (write_of (ours s) 0xE b ≡ record { controller = ours s; answer = Refused 4 })
+      → (write_of (intel s) 0xE b ≡ record { controller = put (intel s) Mask 0; answer = Ok None })
+      × (write_of (ours s) 0xE b ≡ record { controller = ours s; answer = Err (numbered 4) })
   -- ".. and external EOP sets the TC bit of the channel whose count is being run": a run that meets it says the same of both, and leaves the
   -- same but for the edition and that bit, which is set.
   pub met_eop : (s : Controller) (m d r : List ℕ) (limit eop : ℕ) → MeetsEop (ours s) m d r limit eop
@@ -99,6 +98,6 @@ pub record EditionsDiffer : Type 0 where
       × (after (intel s) (Run m d r limit eop) ≡ with_tc (counting s) (as_intel (after (ours s) (Run m d r limit eop))))
   -- "Form 1 has no place for the edition: writing such a state is refusal 15", where ours, without wait states, is written;
   pub sheets : (s : Controller) (out : List ℕ) → valid (intel s) ≡ true → s.waits ≡ 0 → 56 ≤ length out
-      → (sheet_write_of One (intel s) out ≡ stored (sheet.Refused 15) out) × ((sheet_write_of One (ours s) out).answer ≡ sheet.Done)
+      → (sheet_write_of One (intel s) out ≡ stored (Err (numbered 15)) out) × ((sheet_write_of One (ours s) out).answer ≡ Ok tt)
   -- in form 2 the answer is the same for both, whatever the state and the slice.
   pub sheets2 : (s : Controller) (out : List ℕ) → reply (intel s) (SheetWriting Two out) ≡ reply (ours s) (SheetWriting Two out)

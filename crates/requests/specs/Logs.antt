@@ -17,6 +17,7 @@ use Rattle.logs.specs.Record.{record_in}
 use Rattle.logs.specs.Judge.{next_run, tells_eop, is_right, apart, signed, error_of}
 use Rattle.logs.specs.Log.{log_of, bytes_told, eop_told}
 use Rattle.logs.specs.Answers.{JudgeGiven, judge_given, judge_refusal_number, judged_of, place_of}
+use Rattle.am9517.specs.Refusals.{numbered}
 
 -- what is said of a log, with the state and the memory that its good records leave
 abbrev pub verdict : JudgeGiven → Verdict
@@ -30,7 +31,7 @@ says c v m = judge_given (record { controller = c; verdict = v }) m
 
 -- A refusal gives its number, and changes nothing: "Refusals 1, 7, 8 in that order". Where none holds, the log is judged.
 pub record Refuses (c : Controller) (m log : List ℕ) : Type 0 where
-  pub refused : (refusal (run_grounds c m) ≡ 0 → ⊥) → judged_of c m log ≡ says c (Refused (refusal (run_grounds c m))) m
+  pub refused : (refusal (run_grounds c m) ≡ 0 → ⊥) → judged_of c m log ≡ says c (Refused (numbered (refusal (run_grounds c m)))) m
   pub number : judge_refusal_number (verdict (judged_of c m log)) ≡ refusal (run_grounds c m)
 
 -- What a record tells: where it is right, its transfer does what it says. Its flag bit 2, "last of service", is set exactly where the service has
@@ -99,7 +100,7 @@ pub record Error (claimed right : ℕ) : Type 0 where
 abbrev pub further : ℕ → Verdict → Verdict
 further n Accepted = Accepted
 further n (Wrong at error) = Wrong (n + at) error
-further n (Refused k) = Refused k
+further n (Refused r) = Refused r
 
 pub record Parts (c : Controller) (m a b : List ℕ) (g : JudgeGiven) : Type 0 where
   pub opened : verdict g ≡ Accepted → (state g).in_service ≡ 1

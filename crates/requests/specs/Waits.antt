@@ -1,12 +1,11 @@
 -- Document 02, A3, "Slow memory cards": what wait states change, and that nothing else is changed by them.
-use Rattle.std.specs.Prelude.{ℕ, ◌+◌, ◌*◌, ◌≡◌, true, List}
+use Rattle.std.specs.Prelude.{ℕ, ◌+◌, ◌*◌, ◌≡◌, true, List, None, Ok}
 use Rattle.words.specs.Choice.{when}
 use Rattle.am9517.specs.Fields as fields
 use Rattle.am9517.specs.Fields.{put}
 use Rattle.am9517.specs.State.{fresh}
 use Rattle.am9517.specs.Ranges.{valid}
 use Rattle.am9517.specs.Answers.{waits_of}
-use Rattle.am9517.specs.declared.Answer.TheVariants.{Done}
 use Rattle.am9517.specs.declared.Controller.{Controller}
 use Rattle.am9517_service.specs.declared.Counts.{Counts}
 use Rattle.am9517_service.specs.Counts.{counts}
@@ -46,7 +45,7 @@ pub record SlowCards : Type 0 where
   -- A fresh state has none.
   pub fresh : (edition : ℕ) → (fresh edition).waits ≡ 0
   -- "set by its own call when idle": an idle state in its ranges has them from then on, and nothing else of it changes,
-  pub taken : (s : Controller) (n : ℕ) → valid s ≡ true → s.in_service ≡ 0 → waits_of s n ≡ record { controller = waiting n s; answer = Done }
+  pub taken : (s : Controller) (n : ℕ) → valid s ≡ true → s.in_service ≡ 0 → waits_of s n ≡ record { controller = waiting n s; answer = Ok None }
   -- "and unchanged by reset", and by all else but the reading of a sheet, which gives the sheet's own, 0 in form 1 (Sheets `read_waits`).
   pub kept : (s : Controller) (op : Op) → ((n : ℕ) → ¬ (op ≡ Waits n)) → ((form : Form) (bytes : List ℕ) → ¬ (op ≡ SheetReading form bytes))
       → (next s op).waits ≡ s.waits

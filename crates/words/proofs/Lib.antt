@@ -4,6 +4,5 @@ pub mod GroundLaws
 pub mod BitLaws
 pub mod StepLaws
 pub mod PartLaws
-pub mod BoundLaws
 pub mod SpreadLaws
 pub mod SpanLaws

@@ -1,5 +1,5 @@
 -- Addresses over the width: a stretch before they turn over, where they go on, and a stretch in two pieces.
-use Prim.Native.Nat.{ℕ, suc, ◌+◌, ◌-◌, ◌*◌, ◌%◌, ◌^◌, ◌≤◌, ◌<◌}
+use Prim.Native.Nat.{ℕ, suc, ◌+◌, ◌-◌, ◌*◌, ◌%◌, ◌^◌, ◌≤◌, ◌<◌, min}
 use mathlib.Core.Path.{◌≡◌, refl, sym, ap, subst, ◌∙◌}
 use mathlib.Core.Bool.{Bool, true, false}
 use native.Mathlib.Omega.{arith}
@@ -7,10 +7,9 @@ use native.Mathlib.Nat.{mod-eq_of_lt, mul_comm, mul-suc, add-mul-mod_self_left}
 use lib.Pow.{pow_pos}
 use Rattle.words.specs.Choice.{when}
 use Rattle.words.specs.Steps.{step, steps, stride}
-use Rattle.words.specs.Spans.{least, place_of, reach_of, wrapped_to, Within}
+use Rattle.words.specs.Spans.{place_of, reach_of, wrapped_to, Within}
 use Rattle.words.proofs.ChoiceLaws.{never, when_both, when_each}
 use Rattle.words.proofs.StepLaws.{step_up_end, step_down_end, steps_on, steps_next}
-use Rattle.words.proofs.BoundLaws.{least_left, least_right, least_below}
 
 module _ (down : Bool) (a n size : ℕ) (i : Within down a n size) (j : ℕ) (h : j < n) where
   -- a place can be computed, and lies inside
@@ -84,13 +83,13 @@ module _ (w : ℕ) where
   turned_on down a i h = ap (λ (x : ℕ). steps w down x i) (sym (turned down a h)) ∙ steps_on w down a (reach_of (2 ^ w) down a) i
 
   -- the addresses behind a first piece
-  next_piece : (down : Bool) (a n : ℕ) → a < 2 ^ w → n ≤ 2 ^ w → least n (reach_of (2 ^ w) down a) < n
-      → (i : ℕ) → i < n - least n (reach_of (2 ^ w) down a) → place_of down (wrapped_to (2 ^ w) down) i ≡ steps w down a (least n (reach_of (2 ^ w) down a) + i)
+  next_piece : (down : Bool) (a n : ℕ) → a < 2 ^ w → n ≤ 2 ^ w → min n (reach_of (2 ^ w) down a) < n
+      → (i : ℕ) → i < n - min n (reach_of (2 ^ w) down a) → place_of down (wrapped_to (2 ^ w) down) i ≡ steps w down a (min n (reach_of (2 ^ w) down a) + i)
   next_piece down a n h l b i g =
-      let k = least n (reach_of (2 ^ w) down a) in
+      let k = min n (reach_of (2 ^ w) down a) in
       placed down (wrapped_to (2 ^ w) down) (n - k) (turned_within (2 ^ w) down (n - k) (pow_pos w) (omega arith)) i g
       ∙ turned_on down a i h
-      ∙ ap (λ (x : ℕ). steps w down a (x + i)) (sym (least_below n (reach_of (2 ^ w) down a) b))
+      ∙ ap (λ (x : ℕ). steps w down a (x + i)) (sym (let e : min n (reach_of (2 ^ w) down a) ≡ reach_of (2 ^ w) down a = omega arith in e))
 
   -- an address that is held, or steps
   module _ (down : Bool) (a : ℕ) where
@@ -108,15 +107,15 @@ pub record Pieces (size : ℕ) (down : Bool) (a n first : ℕ) : Type 0 where
   pub here : (w : ℕ) → size ≡ 2 ^ w → (i : ℕ) → i < first → place_of down a i ≡ steps w down a i
   pub next : (w : ℕ) → size ≡ 2 ^ w → first < n → (i : ℕ) → i < n - first → place_of down (wrapped_to size down) i ≡ steps w down a (first + i)
 
-pub pieces : (size : ℕ) (down : Bool) (a n reach first : ℕ) → a < size → n ≤ size → reach ≡ reach_of size down a → first ≡ least n reach → Pieces size down a n first
+pub pieces : (size : ℕ) (down : Bool) (a n reach first : ℕ) → a < size → n ≤ size → reach ≡ reach_of size down a → first ≡ min n reach → Pieces size down a n first
 pieces size down a n reach first h l r e =
-    let e' : first ≡ least n (reach_of size down a) = e ∙ ap (least n) r in
-    let k = least n (reach_of size down a) in
-    let front = reach_within size down a k h (least_right n (reach_of size down a)) in
+    let e' : first ≡ min n (reach_of size down a) = e ∙ ap (min n) r in
+    let k = min n (reach_of size down a) in
+    let front = reach_within size down a k h (omega arith) in
     let rest = turned_within size down (n - k) (omega arith) (omega arith) in
     rw e'
     (record {
-      most = least_left n (reach_of size down a);
+      most = omega arith;
       front = front;
       back = rest;
       here = λ w s i g. placed w down a k (subst (Within down a k) s front) i g;

@@ -1,9 +1,6 @@
 -- Spans of a memory whose size is its number of addresses: places before they turn over, where they go on, and bytes put there.
-use Rattle.std.specs.Prelude.{ℕ, zero, suc, ◌+◌, ◌-◌, ◌≤◌, ◌<◌, ◌≡◌, Bool, true, false, List, ltb, get_or, set}
+use Rattle.std.specs.Prelude.{ℕ, zero, suc, ◌+◌, ◌-◌, ◌≤◌, ◌<◌, ◌≡◌, Bool, true, false, List, get_or, set}
 use Rattle.words.specs.Choice.{when}
-
-unfoldable pub least : ℕ → ℕ → ℕ
-least a b = when (ltb a b) a b
 
 -- the j-th place from a on, counted from 0, where nothing turns over
 unfoldable pub place_of : Bool → ℕ → ℕ → ℕ

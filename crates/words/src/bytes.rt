@@ -5,7 +5,7 @@ ghost use Rattle.words.specs.Bytes.{word_of, low_byte, high_byte, byte_of, with_
 pub fn word_of(low: u8, high: u8) -> u16
     ensures { result ≡ word_of low high }
 {
-    low as u16 + 256 * (high as u16)
+    u16::from_le_bytes([low, high])
 }
 
 pub fn low_byte(w: u16) -> u8

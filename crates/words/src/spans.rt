@@ -1,19 +1,7 @@
 // Bytes moved between a memory and a slice, or inside a memory: its length is the number of addresses, and they turn over at its ends.
 ghost use Rattle.std.specs.Prelude.{◌≡◌, true, false, ℕ, ◌+◌, ◌^◌, ◌≤◌, ◌<◌, length};
 ghost use Rattle.words.specs.Steps.{steps};
-ghost use Rattle.words.specs.Spans.{least, place_of, reach_of, wrapped_to, spread, carried, Within};
-
-pub fn least(a: u64, b: u64) -> u64
-    ensures { result ≡ least a b }
-{
-    if a < b { a } else { b }
-}
-
-pub fn lesser(a: usize, b: usize) -> usize
-    ensures { result ≡ least a b }
-{
-    if a < b { a } else { b }
-}
+ghost use Rattle.words.specs.Spans.{place_of, reach_of, wrapped_to, spread, carried, Within};
 
 // The j-th place from `start` on, counted from 0.
 fn place(down: bool, start: usize, j: usize) -> usize
@@ -52,12 +40,10 @@ fn copy(
     requires { Within to_down to n (length dst.old) × Within from_down from n (length src.now) }
     ensures { dst.new ≡ spread (place_of to_down to) (place_of from_down from) src.now dst.old n }
 {
-    let mut j: usize = 0;
-    while j < n {
+    for j in 0..n {
         let source = place(from_down, from, j);
         let target = place(to_down, to, j);
         dst[target] = src[source];
-        j += 1;
     }
 }
 
@@ -67,7 +53,7 @@ pub fn store(memory: &mut [u8], down: bool, at: usize, device: &[u8], n: usize)
     ensures { (w : ℕ) → length memory.old ≡ 2 ^ w → memory.new ≡ spread (steps w down at) (λ (j : ℕ). j) device.now memory.old n }
 {
     let size = memory.len();
-    let first = lesser(n, reach(size, down, at));
+    let first = n.min(reach(size, down, at));
     copy(memory, at, down, device, 0, false, first);
     if first < n {
         copy(
@@ -88,7 +74,7 @@ pub fn load(memory: &[u8], down: bool, at: usize, room: &mut [u8], n: usize)
     ensures { (w : ℕ) → length memory.now ≡ 2 ^ w → room.new ≡ spread (λ (j : ℕ). j) (steps w down at) memory.now room.old n }
 {
     let size = memory.len();
-    let first = lesser(n, reach(size, down, at));
+    let first = n.min(reach(size, down, at));
     copy(room, 0, false, memory, at, down, first);
     if first < n {
         copy(
@@ -108,12 +94,10 @@ pub fn carry(memory: &mut [u8], from: usize, from_down: bool, to: usize, to_down
     requires { Within from_down from n (length memory.old) × Within to_down to n (length memory.old) }
     ensures { memory.new ≡ carried (place_of to_down to) (place_of from_down from) memory.old n }
 {
-    let mut j: usize = 0;
-    while j < n {
+    for j in 0..n {
         let source = place(from_down, from, j);
         let target = place(to_down, to, j);
         memory[target] = memory[source];
-        j += 1;
     }
 }
 
@@ -123,10 +107,8 @@ pub fn fill(memory: &mut [u8], from: usize, to: usize, to_down: bool, n: usize)
     ensures { memory.new ≡ carried (place_of to_down to) (λ (j : ℕ). from) memory.old n }
 {
     let byte = memory[from];
-    let mut j: usize = 0;
-    while j < n {
+    for j in 0..n {
         let target = place(to_down, to, j);
         memory[target] = byte;
-        j += 1;
     }
 }

@@ -1,12 +1,8 @@
-use lib.ListN.{length, drop}
+use lib.ListN.{drop}
 use mathlib.Core.Path.{◌≡◌}
-use Prim.Native.Nat.{◌-◌}
 use Rattle.console_text.specs.Text.{page, put}
 use Rattle.console_dump.specs.Dump.{cells}
 use Rattle.console_dump.proofs.cells.Given as goal
 
-abbrev pub invariant-loop-i : goal.invariant-loop-i
-invariant-loop-i l = (put (page l.out l.next) (cells (drop l.i l.bytes)) ≡ put (page l.initial.out l.at) (cells l.bytes)) × (length l.out ≡ length l.initial.out)
-
-abbrev pub decreases-loop-i : goal.decreases-loop-i
-decreases-loop-i l = length l.bytes - l.i
+abbrev pub invariant-loop-b : goal.invariant-loop-b
+invariant-loop-b l = put (page l.out l.next) (cells (drop l.b-index l.bytes)) ≡ put (page l.initial.out l.at) (cells l.bytes)

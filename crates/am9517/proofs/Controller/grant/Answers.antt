@@ -1,17 +1,15 @@
-use Rattle.am9517.specs.declared.Answer.TheVariants.{Value}
-use Rattle.am9517.proofs.RefusalLaws.{stated}
-use mathlib.Core.Path.{refl, sym}
-use borrow.Author.Tests.{eq-eqb, ne_eqb}
-use Rattle.words.specs.Choice.{when}
-use Rattle.am9517.specs.Answers.{outcome}
+use Prim.Native.Nat.{ℕ}
+use mathlib.Core.Path.{refl, ap, ◌∙◌}
+use Rattle.am9517.specs.Serving.{granted}
+use Rattle.am9517.specs.ClosedAnswers.{answered}
+use Rattle.std.proofs.Common.{Some}
+use Rattle.am9517.proofs.RefusalLaws.{done, kept}
 use Rattle.am9517.proofs.Controller.grant.Goals as goal
-use Rattle.am9517.proofs.Controller.grant.Goals.{then-no-eq0, else-no-eq0}
+use Rattle.am9517.proofs.Controller.grant.Goals.{then-is_none, else-is_none}
 
 pub returns : goal.returns
-unfolding outcome when
 returns c =
-    let at-if1 = c.before in let at-grant-refusal = at-if1.before in let at-picked = at-grant-refusal.before in
-    let e = sym at-grant-refusal.grant_refusal-no.ensures in
-    let n = at-picked.picked-n.ensures in
-    stated _ _ _ _ (Value _) refl (
-    elim at-if1.if-no-eq0.branch [ then-no-eq0 w ↦ simp (c.answered-answer.ensures, e, eq-eqb _ _ w.if-no-eq0.true, w.next-is, w.granted-next.ensures, n) | else-no-eq0 w ↦ simp (c.answered-answer.ensures, e, ne_eqb _ _ w.if-no-eq0.false, w.next-is) ])
+    elim c.if-is_none.branch [
+      | then-is_none w ↦ done _ refl _ _ (Some _) _ c.grant_refusal-refusal.ensures _ c.is_none.ensures _ (c.answered-answer.ensures ∙ ap (λ (v : ℕ). answered c.grant_refusal-refusal.result (Some v)) c.picked-n.ensures) _ w.if-is_none.true (λ z. w.next-is ∙ w.granted-next.ensures ∙ ap (granted c.args.self) c.picked-n.ensures)
+      | else-is_none w ↦ kept _ refl _ _ (Some _) _ c.grant_refusal-refusal.ensures _ c.is_none.ensures _ (c.answered-answer.ensures ∙ ap (λ (v : ℕ). answered c.grant_refusal-refusal.result (Some v)) c.picked-n.ensures) _ w.if-is_none.false w.next-is
+    ]

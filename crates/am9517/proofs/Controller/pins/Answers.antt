@@ -1,16 +1,13 @@
-use Rattle.am9517.specs.declared.Answer.TheVariants.{Done}
-use mathlib.Core.Path.{refl, sym, ◌∙◌}
-use borrow.Author.Tests.{eq-eqb, ne_eqb}
-use Rattle.words.specs.Choice.{when}
-use Rattle.am9517.specs.Answers.{outcome}
-use Rattle.am9517.proofs.RefusalLaws.{stated, pins_fit}
+use mathlib.Core.Path.{refl, ap, ◌∙◌}
+use Rattle.am9517.specs.Fields.{put, Pins}
+use Rattle.std.proofs.Common.{None}
+use Rattle.am9517.proofs.RefusalLaws.{done, kept, pins_fit}
 use Rattle.am9517.proofs.Controller.pins.Goals as goal
-use Rattle.am9517.proofs.Controller.pins.Goals.{then-no-eq0, else-no-eq0}
+use Rattle.am9517.proofs.Controller.pins.Goals.{then-is_none, else-is_none}
 
 pub returns : goal.returns
-unfolding outcome when
 returns c =
-    let at-if1 = c.before in let at-pins-refusal = at-if1.before in let entry = at-pins-refusal.before in
-    let e = sym at-pins-refusal.pins_refusal-no.ensures in
-    stated _ _ _ _ Done refl (
-    elim at-if1.if-no-eq0.branch [ then-no-eq0 w ↦ simp (c.answered-answer.ensures, e, eq-eqb _ _ w.if-no-eq0.true, w.next-is, pins_fit entry.args.self entry.args.levels (e ∙ w.if-no-eq0.true)) | else-no-eq0 w ↦ simp (c.answered-answer.ensures, e, ne_eqb _ _ w.if-no-eq0.false, w.next-is) ])
+    elim c.if-is_none.branch [
+      | then-is_none w ↦ done _ refl _ _ None _ c.pins_refusal-refusal.ensures _ c.is_none.ensures _ c.answered-answer.ensures _ w.if-is_none.true (λ z. w.next-is ∙ ap (put c.args.self Pins) (pins_fit c.args.self c.args.levels z))
+      | else-is_none w ↦ kept _ refl _ _ None _ c.pins_refusal-refusal.ensures _ c.is_none.ensures _ c.answered-answer.ensures _ w.if-is_none.false w.next-is
+    ]

@@ -1,14 +1,12 @@
-use Rattle.am9517.specs.declared.Answer.TheVariants.{Done}
-use Rattle.am9517.proofs.RefusalLaws.{stated}
-use mathlib.Core.Path.{refl, sym}
-use borrow.Author.Tests.{eq-eqb, ne_eqb}
-use Rattle.words.specs.Choice.{when}
-use Rattle.am9517.specs.Answers.{outcome}
+use mathlib.Core.Path.{refl, ◌∙◌}
+use Rattle.std.proofs.Common.{None}
+use Rattle.am9517.proofs.RefusalLaws.{done, kept}
 use Rattle.am9517.proofs.Controller.reset.Goals as goal
-use Rattle.am9517.proofs.Controller.reset.Goals.{then-no-eq0, else-no-eq0}
+use Rattle.am9517.proofs.Controller.reset.Goals.{then-is_none, else-is_none}
 
 pub returns : goal.returns
-unfolding outcome when
-returns c = let e = sym c.before.before.reset_refusal-no.ensures in
-    stated _ _ _ _ Done refl (
-    elim c.before.if-no-eq0.branch [ then-no-eq0 w ↦ simp (c.answered-answer.ensures, e, eq-eqb _ _ w.if-no-eq0.true, w.next-is, w.cleared-next.ensures) | else-no-eq0 w ↦ simp (c.answered-answer.ensures, e, ne_eqb _ _ w.if-no-eq0.false, w.next-is) ])
+returns c =
+    elim c.if-is_none.branch [
+      | then-is_none w ↦ done _ refl _ _ None _ c.reset_refusal-refusal.ensures _ c.is_none.ensures _ c.answered-answer.ensures _ w.if-is_none.true (λ z. w.next-is ∙ w.cleared-next.ensures)
+      | else-is_none w ↦ kept _ refl _ _ None _ c.reset_refusal-refusal.ensures _ c.is_none.ensures _ c.answered-answer.ensures _ w.if-is_none.false w.next-is
+    ]

@@ -1,7 +1,14 @@
+use mathlib.Core.Path.{sym}
 use Rattle.words.specs.Grounds.{first}
-use Rattle.am9517.specs.Refusals.{refusal}
+use Rattle.words.specs.Choice.{when}
+use Rattle.am9517.specs.Refusals.{refusal, numbered, refused, waits_grounds}
+use Rattle.am9517.proofs.RefusalLaws.{refused_is}
 use Rattle.am9517.proofs.Controller.waits_refusal.Goals as goal
 
+pub returns-then-not-valid : goal.returns-then-not-valid
+unfolding refused numbered refusal first when
+returns-then-not-valid c = simp (sym c.valid.ensures, c.if-not-valid.true)
+
 pub returns : goal.returns
-unfolding refusal first
-returns c = simp (c.when.ensures, c.before.before.when-no.ensures, c.before.valid.ensures)
+unfolding refused numbered first when
+returns c = rw (refused_is (waits_grounds c.args.self)) (simp (c.when.ensures, sym c.valid.ensures, c.if-not-valid.false))

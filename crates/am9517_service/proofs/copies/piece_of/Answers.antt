@@ -6,4 +6,4 @@ pub returns-then-each : goal.returns-then-each
 returns-then-each c = sym (when_hit _ _ _ c.if-each.true)
 
 pub returns : goal.returns
-returns c = rw (c.lesser.ensures, c.before.straight.ensures) (sym (when_miss _ _ _ c.before.before.if-each.false))
+returns c = rw (c.min.ensures, c.before.straight.ensures) (sym (when_miss _ _ _ c.before.before.if-each.false))

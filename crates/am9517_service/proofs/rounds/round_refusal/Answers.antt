@@ -1,9 +1,11 @@
 use Rattle.words.specs.Grounds.{first}
-use Rattle.am9517.specs.Refusals.{refusal}
+use Rattle.words.specs.Choice.{when}
+use Rattle.am9517.specs.Refusals.{numbered, refused}
+use Rattle.am9517.proofs.RefusalLaws.{refused_is}
+use Rattle.am9517_service.specs.RoundAnswers.{round_grounds}
 use Rattle.am9517_service.proofs.rounds.round_refusal.Goals as goal
 
 pub returns : goal.returns
-unfolding refusal first
+unfolding first refused numbered when
 returns c =
-    let at-valid = c.before in let at-when3 = at-valid.before in let at-when2 = at-when3.before in let at-when = at-when2.before in
-    simp (c.when.ensures, at-when3.when-no-3.ensures, at-when2.when-no-2.ensures, at-when.when-no.ensures, at-valid.valid.ensures)
+    simp (refused_is (round_grounds c.args.c c.args.memory.now c.args.k), c.when.ensures, c.when-refusal-3.ensures, c.when-refusal-2.ensures, c.when-refusal.ensures, c.valid.ensures)

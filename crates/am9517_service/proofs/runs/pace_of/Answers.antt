@@ -15,12 +15,10 @@ plain command = when_both (λ (x : ℕ). x ≤ 3) (compressed command) (omega ar
 
 pub overflow_add-result : goal.overflow_add-result
 overflow_add-result c =
-    let at-compressed = c.before in let entry = at-compressed.before in
-    rw (c.when_long.ensures, at-compressed.compressed.ensures)
-    (when_both (λ (x : ℕ). Fits w64 (x + entry.args.waits)) (compressed entry.args.command) (omega (arith, entry.well_formed)) (omega (arith, entry.well_formed)))
+    rw (c.when.ensures, c.compressed.ensures)
+    (when_both (λ (x : ℕ). Fits w64 (x + c.args.waits)) (compressed c.args.command) (omega (arith, c.well_formed)) (omega (arith, c.well_formed)))
 
 pub returns : goal.returns
 unfolding pace
 returns c =
-    let at-compressed = c.before in let entry = at-compressed.before in
-    rw (c.when_long.ensures, at-compressed.compressed.ensures) (refl, omega (arith, plain entry.args.command, entry.well_formed))
+    rw (c.when.ensures, c.compressed.ensures) (refl, omega (arith, plain c.args.command, c.well_formed))

@@ -9,5 +9,4 @@ bounds-nexts-last c = omega (arith, (fields c.before.before.args.rota.controller
 
 pub returns : goal.returns
 returns c =
-    let entry = c.before.before in
-    let e = next_own entry.args.rota entry.requires.0 entry.requires.1 in (e, omega (arith, e, picked_most entry.args.rota.controller))
+    let e = next_own c.args.rota c.requires.0 c.requires.1 in (e, omega (arith, e, picked_most c.args.rota.controller))

@@ -10,4 +10,4 @@ returns-in-One c = rw c.in-One.is (omega arith, omega arith)
 pub returns-in-Two : goal.returns-in-Two
 unfolding total
 returns-in-Two c =
-    rw c.in-Two.is (rw (first_cells 2 c.args.b.now (omega arith)) (omega (arith, c.wide.ensures.0, c.wide-in-Two.ensures.0)), omega (arith, c.wide.ensures.1, c.wide-in-Two.ensures.1))
+    rw c.in-Two.is (rw (first_cells 2 c.args.b.now (omega arith)) (omega arith), omega (arith, c.type_inv.b 0, c.type_inv.b 1))

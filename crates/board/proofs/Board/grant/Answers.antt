@@ -1,20 +1,17 @@
-use Rattle.board.proofs.OutcomeLaws.{stated, refused_is, granted_is, picked_few}
-use Rattle.am9517.specs.declared.Answer.TheVariants.{Value}
 use native.Mathlib.Omega.{arith}
-use mathlib.Core.Path.{refl, ◌∙◌}
+use mathlib.Core.Path.{refl, sym, ◌∙◌}
+use Rattle.std.proofs.Common.{Some}
+use Rattle.board.proofs.RefusalLaws.{free}
+use Rattle.board.specs.Refusals.{board_grant_grounds}
+use Rattle.board.proofs.OutcomeLaws.{stated, refused_is, granted_is, picked_few}
 use Rattle.board.proofs.Board.grant.Goals as goal
 
-pub returns-then-no-ne0 : goal.returns-then-no-ne0
-returns-then-no-ne0 c = stated _ _ _ _ (Value _) refl (c.refused.ensures ∙ refused_is _ _ _ _ (Value _) c.before.before.grant_refusal-no.ensures c.before.if-no-ne0.true)
+pub returns-in-Some : goal.returns-in-Some
+returns-in-Some c = stated _ (board_grant_grounds c.args.self) _ _ (Some _) refl (c.refused.ensures ∙ refused_is _ _ _ (Some _) _ (sym c.grant_refusal.ensures ∙ c.in-Some.is))
 
 pub channel_of-requires : goal.channel_of-requires
-channel_of-requires c =
-    let at-picked = c.before.before.before in let at-chip-of = at-picked.before in
-    omega (arith, at-picked.picked-n.ensures, picked_few at-chip-of.chip_of-c.result)
+channel_of-requires c = omega (arith, c.picked-n.ensures, picked_few c.chip_of-c.result)
 
 pub returns : goal.returns
 returns c =
-    let at-turned-to = c.before in let at-grant = at-turned-to.before.before in let at-picked = at-grant.before in
-    let at-chip-of = at-picked.before in let at-winner = at-chip-of.before in let at-if1 = at-winner.before in
-    let at-grant-refusal = at-if1.before in let entry = at-grant-refusal.before in
-    stated _ _ _ _ (Value _) refl (granted_is entry.args.self _ at-grant-refusal.grant_refusal-no.ensures at-if1.if-no-ne0.false _ at-winner.winner-which.ensures _ at-chip-of.chip_of-c.ensures _ at-picked.picked-n.ensures _ at-grant.grant-done.ensures.0 _ at-turned-to.turned_to-board.ensures _ c.channel_of.ensures)
+    stated _ (board_grant_grounds c.args.self) _ _ (Some _) refl (granted_is c.args.self (free _ c.grant_refusal.result c.grant_refusal.ensures c.in_default.not-Some) _ c.winner-which.ensures _ c.chip_of-c.ensures _ c.picked-n.ensures _ c.grant-done.ensures.0 _ c.turned_to-board.ensures _ c.channel_of.ensures)

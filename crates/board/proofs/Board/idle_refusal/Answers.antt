@@ -1,9 +1,11 @@
 use Rattle.words.specs.Grounds.{first}
-use Rattle.am9517.specs.Refusals.{refusal}
+use Rattle.words.specs.Choice.{when}
+use mathlib.Core.List.{[]}
+use Rattle.am9517.specs.Refusals.{numbered, refused}
+use Rattle.board.proofs.RefusalLaws.{refused_is}
+use Rattle.board.specs.Refusals.{idle_grounds}
 use Rattle.board.proofs.Board.idle_refusal.Goals as goal
 
 pub returns : goal.returns
-unfolding refusal first
-returns c =
-    let at-valid = c.before in let at-when = at-valid.before in let at-serves = at-when.before in
-    simp (c.when.ensures, at-valid.valid.ensures, at-when.when-no.ensures, at-serves.serves.ensures)
+unfolding first refused numbered when
+returns c = simp (refused_is (idle_grounds c.args.self []), c.when.ensures, c.valid.ensures, c.when-refusal.ensures, c.serves.ensures)

@@ -1,15 +1,17 @@
-use Rattle.board.proofs.OutcomeLaws.{stated, refused_is, settles, pins_passed, chip_pins}
-use Rattle.am9517.specs.declared.Answer.TheVariants.{Done}
 use Rattle.am9517.specs.declared.Outcome.{Outcome}
 use native.Mathlib.Omega.{arith}
 use mathlib.Core.Path.{refl, sym, ap, ◌∙◌}
+use Rattle.std.proofs.Common.{None}
+use Rattle.board.proofs.RefusalLaws.{free}
+use Rattle.board.specs.Refusals.{board_pins_grounds}
+use Rattle.board.proofs.OutcomeLaws.{stated, refused_is, settles, pins_passed, chip_pins}
 use Rattle.board.proofs.Board.pins.Goals as goal
 
-pub returns-then-no-ne0 : goal.returns-then-no-ne0
-returns-then-no-ne0 c = stated _ _ _ _ Done refl (c.refused.ensures ∙ refused_is _ _ _ _ Done c.before.before.pins_refusal-no.ensures c.before.if-no-ne0.true)
+pub returns-in-Some : goal.returns-in-Some
+returns-in-Some c = stated _ (board_pins_grounds c.args.self c.args.levels) _ _ None refl (c.refused.ensures ∙ refused_is _ _ _ None _ (sym c.pins_refusal.ensures ∙ c.in-Some.is))
 
 pub returns : goal.returns
 returns c =
-    let at-pins2 = c.before in let at-pins = at-pins2.before in let at-if1 = at-pins.before in let at-pins-refusal = at-if1.before in
-    let entry = at-pins-refusal.before in
-    let p = pins_passed entry.args.self entry.args.levels _ at-pins-refusal.pins_refusal-no.ensures at-if1.if-no-ne0.false in let h = p.1 in stated _ _ _ _ Done refl (settles entry.args.self _ (sym at-pins-refusal.pins_refusal-no.ensures ∙ at-if1.if-no-ne0.false) _ _ _ _ _ _ (ap (λ (o : Outcome). o.controller) at-pins.pins-first.ensures.0 ∙ chip_pins _ _ p.0.first (omega arith)) (ap (λ (o : Outcome). o.controller) at-pins2.pins-second.ensures.0 ∙ chip_pins _ _ p.0.second (omega (arith, h))) c.settled.ensures)
+    let z = free _ c.pins_refusal.result c.pins_refusal.ensures c.in_default.not-Some in
+    let p = pins_passed c.args.self c.args.levels _ refl z in let h = p.1 in
+    stated _ (board_pins_grounds c.args.self c.args.levels) _ _ None refl (settles c.args.self _ z _ _ _ _ _ _ (ap (λ (o : Outcome). o.controller) c.pins-first.ensures.0 ∙ chip_pins _ _ p.0.first (omega arith)) (ap (λ (o : Outcome). o.controller) c.pins-second.ensures.0 ∙ chip_pins _ _ p.0.second (omega (arith, h))) c.settled.ensures)

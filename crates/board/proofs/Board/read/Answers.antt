@@ -1,27 +1,16 @@
-use Rattle.board.proofs.OutcomeLaws.{stated}
-use Rattle.board.proofs.AccessLaws.{free, accessed, unaccessed}
+use mathlib.Core.List.{[], ◌∷◌}
+use mathlib.Core.Path.{refl}
+use Rattle.std.proofs.Common.{Some, rules}
+use Rattle.words.specs.Grounds.{◌if◌}
 use Rattle.am9517.specs.Refusals.{unreadable}
 use Rattle.am9517.specs.Registers.{after_read, value}
-use Rattle.am9517.specs.declared.Answer.TheVariants.{Value}
-use Rattle.words.specs.Grounds.{◌if◌}
-use Rattle.board.specs.Chips.{chip, other, own}
-use mathlib.Core.List.{[], ◌∷◌}
-use mathlib.Core.Path.{◌≡◌, refl}
+use Rattle.board.specs.Chips.{own}
+use Rattle.board.specs.Refusals.{board_read_grounds}
+use Rattle.board.proofs.OutcomeLaws.{stated}
 use Rattle.board.proofs.Board.read.Goals as goal
-use Rattle.board.proofs.Board.read.Goals.{in-First, in-Second, then-free-next+in-First-which, then-free-next+in-Second-which, else-free-next}
 
 pub returns : goal.returns
 returns c =
-    let found = c.addressed-which in
-    let b = c.args.self in
     let r = c.args.reg in
-    -- the other controller is asked, whichever it is
-    let other_free : c.match-which.free ≡ free (chip b (other found.result)) = elim c.match-which.branch [
-      | in-First w ↦ simp (w.free-is, w.valid.ensures, w.in-First.is)
-      | in-Second w ↦ simp (w.free-is, w.valid-in-Second.ensures, w.in-Second.is)
-    ] in
-    stated _ _ _ _ (Value _) refl (elim c.if-free-next.branch [
-      | then-free-next+in-First-which w ↦ accessed b r (λ k. 4 if unreadable (own r) ∷ []) (λ k. after_read k (own r)) (λ k. Value (value k (own r))) _ _ _ _ _ found.ensures other_free w.if-free-next.true w.chip_of.ensures w.read-done.ensures.0 (simp (w.next-is, w.answer-is, w.in-First-which.is))
-      | then-free-next+in-Second-which w ↦ accessed b r (λ k. 4 if unreadable (own r) ∷ []) (λ k. after_read k (own r)) (λ k. Value (value k (own r))) _ _ _ _ _ found.ensures other_free w.if-free-next.true w.chip_of.ensures w.read-done.ensures.0 (simp (w.next-is, w.answer-is, w.in-Second-which.is))
-      | else-free-next w ↦ simp (w.next-is, w.answer-is) (unaccessed b r _ _ _ found.result _ _ other_free w.if-free-next.false w.access_refusal.ensures)
-    ])
+    stated _ (board_read_grounds c.args.self r) _ _ (Some _) refl
+    (c.accessed.ensures (λ k. 4 if unreadable (own r) ∷ []) (λ k. after_read k (own r)) (λ k. Some (value k (own r))) (λ o does. search rules))

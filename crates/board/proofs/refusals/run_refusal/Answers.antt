@@ -1,9 +1,10 @@
 use Rattle.words.specs.Grounds.{first}
-use Rattle.am9517.specs.Refusals.{refusal}
+use Rattle.words.specs.Choice.{when}
+use Rattle.am9517.specs.Refusals.{numbered, refused}
+use Rattle.board.proofs.RefusalLaws.{refused_is}
+use Rattle.board.specs.Refusals.{board_run_grounds}
 use Rattle.board.proofs.refusals.run_refusal.Goals as goal
 
 pub returns : goal.returns
-unfolding refusal first
-returns c =
-    let at-valid = c.before in let at-when2 = at-valid.before in let at-when = at-when2.before in let at-serves = at-when.before in
-    simp (c.when.ensures, at-valid.valid.ensures, at-when2.when-no-2.ensures, at-when.when-no.ensures, at-serves.serves.ensures)
+unfolding first refused numbered when
+returns c = simp (refused_is (board_run_grounds c.args.b c.args.memory.now), c.when.ensures, c.valid.ensures, c.when-refusal-2.ensures, c.when-refusal.ensures, c.serves.ensures)

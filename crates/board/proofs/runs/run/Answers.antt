@@ -1,14 +1,11 @@
+use mathlib.Core.Path.{refl, sym, ◌∙◌}
+use Rattle.board.proofs.RefusalLaws.{free}
 use Rattle.board.proofs.RunLaws.{refused_run, ran_is}
 use Rattle.board.proofs.runs.run.Goals as goal
 
-pub returns-then-no-ne0 : goal.returns-then-no-ne0
-returns-then-no-ne0 c =
-    let at-if1 = c.before in let at-run-refusal = at-if1.before in let entry = at-run-refusal.before.before.before.before.before in
-    refused_run entry.args.b _ _ _ _ _ _ at-run-refusal.run_refusal-no.ensures at-if1.if-no-ne0.true _ c.refused_on.ensures
+pub returns-in-Some : goal.returns-in-Some
+returns-in-Some c = refused_run c.args.b _ _ _ _ _ _ (sym c.run_refusal.ensures ∙ c.in-Some.is) _ c.no_counts.ensures
 
 pub returns : goal.returns
 returns c =
-    let at-run = c.before.before.before.before.before in let at-chip-of = at-run.before.before.before in
-    let at-server = at-chip-of.before in let at-if1 = at-server.before in let at-run-refusal = at-if1.before in
-    let entry = at-run-refusal.before.before.before.before.before in
-    ran_is entry.args.b _ _ _ _ _ _ at-run-refusal.run_refusal-no.ensures at-if1.if-no-ne0.false _ at-server.server-which.ensures _ at-chip-of.chip_of-c.ensures _ _ _ at-run.run-ran.ensures.0 at-run.run-ran.ensures.1 _ c.ran_on.ensures
+    ran_is c.args.b _ _ _ _ _ _ refl (free _ c.run_refusal.result c.run_refusal.ensures c.in_default.not-Some) _ c.server-which.ensures _ c.chip_of-c.ensures _ _ _ c.run-ran.ensures.0 c.run-ran.ensures.1 _ c.ran_on.ensures

@@ -19,4 +19,4 @@ returns-in-Wrong c =
     ap (λ (x : ℤ). record { refusal = 0; error = x; right = c.in-Wrong.at }) z ∙ sym (ap (judge_told_of c.args.size) c.in-Wrong.is)
 
 pub returns-in-Refused : goal.returns-in-Refused
-returns-in-Refused c = ap (λ (n : ℕ). record { refusal = n; error = pos 0; right = 0 }) c.wide.ensures.0 ∙ sym (ap (judge_told_of c.args.size) c.in-Refused.is)
+returns-in-Refused c = ap (λ (n : ℕ). record { refusal = n; error = pos 0; right = 0 }) (c.wide.ensures.0 ∙ c.number.ensures) ∙ sym (ap (judge_told_of c.args.size) c.in-Refused.is)

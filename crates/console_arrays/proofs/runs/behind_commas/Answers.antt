@@ -1,10 +1,8 @@
 use Rattle.console_arrays.proofs.ServiceLaws.{commas_turn, commas_end}
-use borrow.Author.Rules.{rules}
 use Rattle.console_arrays.proofs.runs.behind_commas.Goals as goal
 
-pub loop-i-preserved : goal.loop-i-preserved
-loop-i-preserved c =
-    (commas_turn _ _ _ _ _ c.loop-i-test.true c.behind_comma-next.ensures c.loop-i.invariant.0, search rules)
+pub loop-n-preserved : goal.loop-n-preserved
+loop-n-preserved c = commas_turn _ _ _ _ _ c.loop-n-test.true c.behind_comma-next.ensures c.loop-n.invariant
 
 pub returns : goal.returns
-returns c = commas_end _ _ _ c.loop-i.i c.loop-i-test.false c.loop-i.invariant.0
+returns c = commas_end _ _ _ c.loop-n.n-index c.loop-n-test.false c.loop-n.invariant

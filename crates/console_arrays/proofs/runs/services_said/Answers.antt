@@ -11,5 +11,5 @@ returns-then-services-eq0 c =
 
 pub returns : goal.returns
 returns c =
-    put_both _ _ _ _ _ (put_both _ _ _ _ _ c.text-next.ensures (rw c.wide.ensures at c.decimal-next.ensures)) (rw (tail_all 1 c.args.services.now) at c.behind_commas.ensures)
+    put_both _ _ _ _ _ (put_both _ _ _ _ _ c.text-next.ensures c.decimal-next.ensures) (rw (tail_all 1 c.args.services.now) at c.behind_commas.ensures)
     ∙ ap (put (page c.args.out.now c.args.at)) (services_some _ c.if-services-eq0.false)

@@ -1,14 +1,14 @@
-use Rattle.console_board.proofs.ServiceLaws.{board_rounded_so}
 use Rattle.console_chip.specs.Answers.{numbered}
-use mathlib.Core.Path.{sym}
+use Rattle.console_arrays.specs.Services.{serving}
+use Rattle.console_board.specs.Services.{board_round_service}
+use Rattle.console_text.specs.Text.{page}
+use mathlib.Core.Path.{sym, ap, ◌∙◌}
 use Rattle.console_board.proofs.runs.go_round.Goals as goal
 
-pub returns-in-Value : goal.returns-in-Value
+pub returns-in_default : goal.returns-in_default
 unfolding numbered
-returns-in-Value c =
-    simp (sym c.in-Value.ensures) (board_rounded_so _ _ _ _ _ _ c.round-done.ensures.0 c.round_said-next.ensures)
+returns-in_default c = simp (sym c.in_default.ensures) (c.unserved.ensures _ _)
 
-pub returns-in-Bad : goal.returns-in-Bad
-unfolding numbered
-returns-in-Bad c =
-    simp (sym c.in-Bad.ensures) (c.unserved.ensures _ _)
+pub returns : goal.returns
+unfolding numbered board_round_service
+returns c = simp (sym c.in-Some.ensures) (c.round_served.ensures _ _ ∙ ap (λ g. serving (page c.args.out.now c.args.at) (board_round_service g)) c.round-done.ensures.0)

@@ -2,4 +2,4 @@ use Rattle.console_text.proofs.TextLaws.{put_both}
 use Rattle.console_chip.proofs.answers.refused.Goals as goal
 
 pub returns : goal.returns
-returns c = put_both _ _ _ _ _ c.text-next.ensures c.decimal.ensures
+returns c = put_both _ _ _ _ _ c.text-at.ensures (rw c.number.ensures at c.decimal.ensures)

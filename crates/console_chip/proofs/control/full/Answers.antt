@@ -1,5 +1,6 @@
+use Rattle.console_chip.proofs.AnswerLaws.{said_so}
 use Rattle.console_text.proofs.TextLaws.{put_both}
 use Rattle.console_chip.proofs.control.full.Goals as goal
 
 pub returns : goal.returns
-returns c = rw c.body_of-body.ensures at (put_both _ _ _ _ _ c.text-next.ensures c.hex.ensures)
+returns c = said_so _ _ _ (rw c.body_of-body.ensures at (put_both _ _ _ _ _ c.text-at.ensures c.hex-at.ensures))

@@ -22,7 +22,7 @@ returns-then-line-gt-LONGEST c =
 
 pub perform-done-requires : goal.perform-done-requires
 perform-done-requires c =
-    let all = standing _ _ _ _ _ (sym c.stands.ensures ∙ c.if-not-stands.false) in let line = c.args.line.now in let words = c.words_in-words.result in (all.0, all.1, omega (arith, c.if-line-gt-LONGEST.false, held_length line words.one.from words.one.to c.words_in-words.ensures.4), omega (arith, c.if-line-gt-LONGEST.false, held_length line words.three.from words.three.to c.words_in-words.ensures.8))
+    let all = standing _ _ _ _ _ (sym c.stands.ensures ∙ c.if-not-stands.false) in let line = c.args.line.now in let words = c.words_in-words.result in (all.0, all.1, omega (arith, c.if-line-gt-LONGEST.false, held_length line words.one.from words.one.to c.words_in-words.ensures.2), omega (arith, c.if-line-gt-LONGEST.false, held_length line words.three.from words.three.to c.words_in-words.ensures.4))
 
 pub returns : goal.returns
 returns c =

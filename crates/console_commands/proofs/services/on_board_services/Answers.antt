@@ -15,7 +15,7 @@ pub returns : goal.returns
 returns c =
     let s = c.args in
     let stood = c.requires in
-    let size = c.serve_board-done.auto.room ∙ held_length s.room.now s.console.written s.console.size stood.roomed in
+    let size = c.serve_board-done.auto.room ∙ held_length s.room.now s.console.written s.console.size stood.roomed.inside in
     let asked : List ℕ → List ℕ → List ℕ → Service Board = λ (m d r : List ℕ). board_service_reply s.command s.console.board m d r s.one.now s.two.now in
-    let next = ap (λ (x : Console). with_board x c.serve_board-done.result.board) c.after_service-next.ensures in
-    (service_so s.console s.memory.now s.queue.now s.room.now stood (λ (x : Board). s.console.controller) (λ (x : Board). x) asked _ c.serve_board-done.result.board c.serve_board-done.result.used c.serve_board-done.result.written c.serve_board-done.new.memory c.serve_board-done.new.room _ _ c.serve_board-done.ensures size _ next, served_standing s.console _ _ _ stood _ _ _ _ _ next)
+    let next = ap (λ (x : Console). with_board x c.serve_board-done.result.next) c.after_service-next.ensures in
+    (service_so s.console s.memory.now s.queue.now s.room.now stood (λ (x : Board). s.console.controller) (λ (x : Board). x) asked _ c.serve_board-done.result.next c.serve_board-done.result.used c.serve_board-done.result.written c.serve_board-done.new.memory c.serve_board-done.new.room _ _ c.serve_board-done.ensures size _ next, served_standing s.console _ _ _ stood _ _ _ _ _ next)

@@ -1,12 +1,8 @@
 use Rattle.console_text.specs.Hex.{bytes_in}
 use Rattle.console_text.specs.Text.{page, put}
-use lib.ListN.{length, drop}
-use mathlib.Core.Path.{◌≡◌}
-use Prim.Native.Nat.{◌≤◌, ◌-◌, ◌+◌}
+use Rattle.std.proofs.Common.{◌≡◌}
+use Rattle.std.specs.Slice.Iter.{chunks_exact_rest, chunks_exact_size}
 use Rattle.console_text.proofs.hex.store.Given as goal
 
-abbrev pub invariant-loop-i : goal.invariant-loop-i
-invariant-loop-i l = (put (page l.out l.next) (bytes_in (drop (l.i - 1) l.s)) ≡ put (page l.initial.out l.at) (bytes_in l.s)) × (1 ≤ l.i) × (length l.out ≡ length l.initial.out)
-
-abbrev pub decreases-loop-i : goal.decreases-loop-i
-decreases-loop-i l = length l.s + 1 - l.i
+abbrev pub invariant-loop-two : goal.invariant-loop-two
+invariant-loop-two l = (put (page l.out l.next) (bytes_in (chunks_exact_rest l.two-iterator)) ≡ put (page l.initial.out l.at) (bytes_in l.s)) × (chunks_exact_size l.two-iterator ≡ 2)

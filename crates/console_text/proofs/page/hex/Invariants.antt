@@ -1,12 +1,7 @@
-use Rattle.console_text.specs.Hex.{hex_text}
 use Rattle.console_text.specs.Text.{page, put}
-use lib.ListN.{length, drop}
-use mathlib.Core.Path.{◌≡◌}
-use Prim.Native.Nat.{◌-◌}
+use Rattle.console_text.specs.Hex.{hex_text}
+use Rattle.std.proofs.Common.{◌≡◌, take}
 use Rattle.console_text.proofs.page.hex.Given as goal
 
-abbrev pub invariant-loop-i : goal.invariant-loop-i
-invariant-loop-i l = (put (page l.out l.next) (hex_text (drop l.i l.bytes)) ≡ put (page l.initial.out l.at) (hex_text l.bytes)) × (length l.out ≡ length l.initial.out)
-
-abbrev pub decreases-loop-i : goal.decreases-loop-i
-decreases-loop-i l = length l.bytes - l.i
+abbrev pub invariant-loop-b : goal.invariant-loop-b
+invariant-loop-b l = page l.out l.next ≡ put (page l.initial.out l.at) (hex_text (take l.b-index l.bytes))

@@ -7,24 +7,24 @@ use Rattle.words.proofs.spans.load.Goals as goal
 
 pub copy-requires : goal.copy-requires
 copy-requires c =
-    let at-lesser = c.before in let at-reach = at-lesser.before in let at_pre = at-reach.before.before.before in
-    let p = pieces _ _ _ _ _ _ at_pre.requires.0 at_pre.requires.1 at-reach.reach.ensures at-lesser.lesser-first.ensures in (within_front _ _ _ (omega (arith, p.most, at_pre.requires.2)), p.front)
+    let at-min = c.before in let at-reach = at-min.before in let at_pre = at-reach.before.before.before in
+    let p = pieces _ _ _ _ _ _ at_pre.requires.0 at_pre.requires.1 at-reach.reach.ensures at-min.min-first.ensures in (within_front _ _ _ (omega (arith, p.most, at_pre.requires.2)), p.front)
 
 pub copy-requires-then-first-n : goal.copy-requires-then-first-n
 copy-requires-then-first-n c =
-    let at_copy = c.before.before.before.before.before in let at-lesser = at_copy.before.before in let at-reach = at-lesser.before in
+    let at_copy = c.before.before.before.before.before in let at-min = at_copy.before.before in let at-reach = at-min.before in
     let at_pre = at-reach.before.before.before in
-    let p = pieces _ _ _ _ _ _ at_pre.requires.0 at_pre.requires.1 at-reach.reach.ensures at-lesser.lesser-first.ensures in (within_front _ _ _ (omega (arith, at_copy.copy.auto, p.most, at_pre.requires.2)), rw c.wrapped_to.ensures p.back)
+    let p = pieces _ _ _ _ _ _ at_pre.requires.0 at_pre.requires.1 at-reach.reach.ensures at-min.min-first.ensures in (within_front _ _ _ (omega (arith, at_copy.copy.auto, p.most, at_pre.requires.2)), rw c.wrapped_to.ensures p.back)
 
 pub returns-then-first-n : goal.returns-then-first-n
 returns-then-first-n c =
     let at-copy2 = c.before.before in let at-wrapped-to = at-copy2.before in let at-if1 = at-wrapped-to.before.before in
-    let at_copy = at-if1.before.before.before in let at-lesser = at_copy.before.before in let at-reach = at-lesser.before in
+    let at_copy = at-if1.before.before.before in let at-min = at_copy.before.before in let at-reach = at-min.before in
     let at_pre = at-reach.before.before.before in
-    λ w e. let p = pieces _ _ _ _ _ _ at_pre.requires.0 at_pre.requires.1 at-reach.reach.ensures at-lesser.lesser-first.ensures in spread_pieces _ _ _ _ _ _ _ _ _ _ _ _ p.most at_copy.copy.ensures (rw at-wrapped-to.wrapped_to.ensures at at-copy2.copy-then-first-n.ensures) (λ i h. front_first i) (p.here w e) (λ i h. front_is _ i) (p.next w e at-if1.if-first-n.true)
+    λ w e. let p = pieces _ _ _ _ _ _ at_pre.requires.0 at_pre.requires.1 at-reach.reach.ensures at-min.min-first.ensures in spread_pieces _ _ _ _ _ _ _ _ _ _ _ _ p.most at_copy.copy.ensures (rw at-wrapped-to.wrapped_to.ensures at at-copy2.copy-then-first-n.ensures) (λ i h. front_first i) (p.here w e) (λ i h. front_is _ i) (p.next w e at-if1.if-first-n.true)
 
 pub returns-else-first-n : goal.returns-else-first-n
 returns-else-first-n c =
-    let at_copy = c.before.before.before in let at-lesser = at_copy.before.before in let at-reach = at-lesser.before in
+    let at_copy = c.before.before.before in let at-min = at_copy.before.before in let at-reach = at-min.before in
     let at_pre = at-reach.before.before.before in
-    λ w e. let p = pieces _ _ _ _ _ _ at_pre.requires.0 at_pre.requires.1 at-reach.reach.ensures at-lesser.lesser-first.ensures in let all : at-lesser.lesser-first.result ≡ at_pre.args.n = omega (arith, p.most) in at_copy.copy.ensures ∙ spread_same _ _ _ _ _ _ _ (λ i h. front_first i) (p.here w e) ∙ ap (spread _ _ _ _) all
+    λ w e. let p = pieces _ _ _ _ _ _ at_pre.requires.0 at_pre.requires.1 at-reach.reach.ensures at-min.min-first.ensures in let all : at-min.min-first.result ≡ at_pre.args.n = omega (arith, p.most) in at_copy.copy.ensures ∙ spread_same _ _ _ _ _ _ _ (λ i h. front_first i) (p.here w e) ∙ ap (spread _ _ _ _) all

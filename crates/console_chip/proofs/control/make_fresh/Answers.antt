@@ -1,4 +1,0 @@
-use Rattle.console_chip.proofs.control.make_fresh.Goals as goal
-
-pub returns : goal.returns
-returns c = rw c.fresh-next.ensures at c.agree.ensures

@@ -1,5 +1,0 @@
-use Rattle.console_chip.proofs.AnswerLaws.{said_so}
-use Rattle.console_commands.proofs.chip.state_said.Goals as goal
-
-pub returns : goal.returns
-returns c = said_so _ _ _ c.before.before.state-next.ensures

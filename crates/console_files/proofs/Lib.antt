@@ -1,0 +1,2 @@
+-- Laws about the definitions that the contracts name.
+pub mod PageLaws

@@ -1,9 +1,0 @@
--- The length goes back from the one that was given.
-use Rattle.std.proofs.Common.{◌≤◌}
-use Rattle.console_turns.proofs.turns.trimmed.Given as goal
-
-abbrev pub invariant-loop-i : goal.invariant-loop-i
-invariant-loop-i l = l.i ≤ l.n
-
-abbrev pub decreases-loop-i : goal.decreases-loop-i
-decreases-loop-i l = l.i
