@@ -122,14 +122,22 @@ unfolding when
 told_by n told true e l = sym (eqb-true _ _ e)
 told_by n told false e l = number_back n l (eqb-false _ _ e)
 
-pub number_told : (gs : List (Ground ℕ)) → named gs ≡ true → (was next : Controller) (told : Option ℕ) → refusal_number (outcome (refusal gs) was next told).answer ≡ refusal gs
+pub number_told : (n : ℕ) → n ≤ 15 → (was next : Controller) (told : Option ℕ) → refusal_number (outcome n was next told).answer ≡ n
 unfolding outcome
-number_told gs h was next told = told_by (refusal gs) told (eqb (refusal gs) 0) refl (few gs h)
+number_told n l was next told = told_by n told (eqb n 0) refl l
 
 -- so an outcome that is this one states this paper's number
-pub stated : (r : Outcome) (gs : List (Ground ℕ)) (was next : Controller) (told : Option ℕ) → named gs ≡ true → r ≡ outcome (refusal gs) was next told
+pub stated : (r : Outcome) (n : ℕ) (was next : Controller) (told : Option ℕ) → n ≤ 15 → r ≡ outcome n was next told
+    → (r ≡ outcome n was next told) × (refusal_number r.answer ≡ n)
+stated r n was next told l e = (e, ap (λ (o : Outcome). refusal_number o.answer) e ∙ number_told n l was next told)
+
+-- both of the number that these grounds give
+pub grounds_told : (gs : List (Ground ℕ)) → named gs ≡ true → (was next : Controller) (told : Option ℕ) → refusal_number (outcome (refusal gs) was next told).answer ≡ refusal gs
+grounds_told gs h was next told = number_told (refusal gs) (few gs h) was next told
+
+pub grounds_stated : (r : Outcome) (gs : List (Ground ℕ)) (was next : Controller) (told : Option ℕ) → named gs ≡ true → r ≡ outcome (refusal gs) was next told
     → (r ≡ outcome (refusal gs) was next told) × (refusal_number r.answer ≡ refusal gs)
-stated r gs was next told h e = (e, ap (λ (o : Outcome). refusal_number o.answer) e ∙ number_told gs h was next told)
+grounds_stated r gs was next told h e = stated r (refusal gs) was next told (few gs h) e
 
 -- what an operation hands back, whose refusal is r: x is the state, a the answer
 module _ (gs : List (Ground ℕ)) (h : named gs ≡ true) (was next : Controller) (told : Option ℕ) (r : Option Refusal) (is : r ≡ refused (refusal gs))
@@ -141,9 +149,9 @@ module _ (gs : List (Ground ℕ)) (h : named gs ≡ true) (was next : Controller
   pub done : b ≡ true → (refusal gs ≡ 0 → x ≡ next) → Told
   unfolding outcome when
   done t e = let z = accepted (refusal gs) r b is test t in
-      stated _ gs was next told h (simp (says ∙ answered_is (refusal gs) r told is, eq-eqb (refusal gs) 0 z, e z))
+      grounds_stated _ gs was next told h (simp (says ∙ answered_is (refusal gs) r told is, eq-eqb (refusal gs) 0 z, e z))
 
   -- refused: the old one
   pub kept : b ≡ false → x ≡ was → Told
   unfolding outcome when
-  kept t e = stated _ gs was next told h (simp (says ∙ answered_is (refusal gs) r told is, ne_eqb (refusal gs) 0 (denied (refusal gs) r b is test t), e))
+  kept t e = grounds_stated _ gs was next told h (simp (says ∙ answered_is (refusal gs) r told is, ne_eqb (refusal gs) 0 (denied (refusal gs) r b is test t), e))

@@ -23,7 +23,7 @@ use Rattle.words.proofs.ChoiceLaws.{never}
 use Rattle.am9517.proofs.ResultLaws as result
 use Rattle.words.proofs.GroundLaws.{passed, first_else}
 use Rattle.std.proofs.Common.{Result, Ok, Err}
-use Rattle.am9517_sheet.proofs.SheetLaws.{put_too, put_done, put_refused}
+use Rattle.am9517_sheet.proofs.SheetLaws.{grounds_put, put_done, put_refused}
 
 -- neither of two is short
 neither : (a b : Bool) → a || b ≡ false → (a ≡ false) × (b ≡ false)
@@ -101,7 +101,7 @@ module _ (from to : Form) (source : List ℕ) where
 
   pub convert_too : (out : List ℕ) (w : Stored) → w ≡ rewritten from to source out
       → (w ≡ rewritten from to source out) × (sheet_refusal_number w.answer ≡ refusal (convert_grounds from to source (length out)))
-  convert_too out w e = put_too (convert_grounds from to source (length out)) refl to (told_in from source) out w e
+  convert_too out w e = grounds_put (convert_grounds from to source (length out)) refl to (told_in from source) out w e
 
   -- what is given: a refusal's number and the target as it was, or the sheet in its other form
   module _ (out : List ℕ) (no : ℕ) (e : refusal (convert_grounds from to source (length out)) ≡ no) where

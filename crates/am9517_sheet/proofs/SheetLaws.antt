@@ -4,6 +4,7 @@ use mathlib.Core.Path.{◌≡◌, refl, sym, ap, ◌∙◌}
 use mathlib.Core.Bool.{true, false, not}
 use mathlib.Core.List.{List, [], ◌∷◌}
 use native.Mathlib.Omega.{arith}
+use lib.Dec.{eqb}
 use lib.ListN.{length, length-append}
 use borrow.Author.Tests.{not-false, ltb-false, le-ltb, ne_eqb}
 use Rattle.words.specs.Choice.{when}
@@ -22,15 +23,19 @@ use Rattle.am9517_sheet.specs.Trailer.{trailer_of, trailer_grounds}
 use Rattle.am9517_sheet.specs.Sheet.{sheet_in, told_in, sheet_of, sheet_refusal_number, answer_of, Stored, stored, put_unless, sheet_write_grounds, sheet_write_of, sheet_faults, sheet_read_grounds, sheet_read_of}
 use Rattle.words.proofs.GroundLaws.{passed}
 use Rattle.std.proofs.Common.{Result, Ok, Err}
-use Rattle.am9517.proofs.RefusalLaws.{named}
+use Rattle.am9517.proofs.RefusalLaws.{named, few, told_by}
 use Rattle.am9517.proofs.ResultLaws as result
 use Rattle.am9517_sheet.proofs.TrailerLaws.{trailer_accepted, trailer_told}
 use Rattle.am9517_sheet.proofs.BodyLaws.{body_length, state_of_body}
 
 -- the answer says the refusal's own number
-pub number_said : (gs : List (Ground ℕ)) → named gs ≡ true → sheet_refusal_number (answer_of (refusal gs)) ≡ refusal gs
+pub number_said : (n : ℕ) → n ≤ 15 → sheet_refusal_number (answer_of n) ≡ n
 unfolding answer_of
-number_said gs h = result.number_said gs tt h
+number_said n l = told_by n tt (eqb n 0) refl l
+
+-- and the one that these grounds give
+pub grounds_said : (gs : List (Ground ℕ)) → named gs ≡ true → sheet_refusal_number (answer_of (refusal gs)) ≡ refusal gs
+grounds_said gs h = number_said (refusal gs) (few gs h)
 
 -- and where it is done nothing refuses
 pub none_refuses : (n : ℕ) → answer_of n ≡ Ok tt → n ≡ 0
@@ -38,9 +43,13 @@ unfolding answer_of
 none_refuses n done = (result.given n tt tt (sym done)).0
 
 -- what gives what a definition gives says that definition's number, too
-pub put_too : (gs : List (Ground ℕ)) → named gs ≡ true → (form : Form) (s : Controller) (out : List ℕ) (w : Stored) → w ≡ put_unless (refusal gs) form s out
+pub put_too : (n : ℕ) → n ≤ 15 → (form : Form) (s : Controller) (out : List ℕ) (w : Stored) → w ≡ put_unless n form s out
+    → (w ≡ put_unless n form s out) × (sheet_refusal_number w.answer ≡ n)
+put_too n l form s out w e = (e, ap (λ (v : Stored). sheet_refusal_number v.answer) e ∙ number_said n l)
+
+pub grounds_put : (gs : List (Ground ℕ)) → named gs ≡ true → (form : Form) (s : Controller) (out : List ℕ) (w : Stored) → w ≡ put_unless (refusal gs) form s out
     → (w ≡ put_unless (refusal gs) form s out) × (sheet_refusal_number w.answer ≡ refusal gs)
-put_too gs h form s out w e = (e, ap (λ (v : Stored). sheet_refusal_number v.answer) e ∙ number_said gs h)
+grounds_put gs h form s out w e = put_too (refusal gs) (few gs h) form s out w e
 
 -- and what is left: the sheet at the slice's end, or the slice as it was
 module _ (n : ℕ) (form : Form) (s : Controller) (out : List ℕ) where
@@ -54,11 +63,11 @@ module _ (n : ℕ) (form : Form) (s : Controller) (out : List ℕ) where
 
 pub write_too : (form : Form) (s : Controller) (out : List ℕ) (w : Stored) → w ≡ sheet_write_of form s out
     → (w ≡ sheet_write_of form s out) × (sheet_refusal_number w.answer ≡ refusal (sheet_write_grounds form s (length out)))
-write_too form s out w e = put_too (sheet_write_grounds form s (length out)) refl form s out w e
+write_too form s out w e = grounds_put (sheet_write_grounds form s (length out)) refl form s out w e
 
 pub read_too : (form : Form) (s : Controller) (bytes : List ℕ) (r : SheetRead) → r ≡ sheet_read_of form s bytes
     → (r ≡ sheet_read_of form s bytes) × (sheet_refusal_number r.answer ≡ refusal (sheet_read_grounds form bytes))
-read_too form s bytes r e = (e, ap (λ (x : SheetRead). sheet_refusal_number x.answer) e ∙ number_said (sheet_read_grounds form bytes) refl)
+read_too form s bytes r e = (e, ap (λ (x : SheetRead). sheet_refusal_number x.answer) e ∙ grounds_said (sheet_read_grounds form bytes) refl)
 
 module _ (form : Form) where
   pub sheet_length : (s : Controller) → length (sheet_of form s) ≡ sheet_size form

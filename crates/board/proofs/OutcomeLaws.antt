@@ -29,16 +29,20 @@ use Rattle.board.specs.Refusals.{access_grounds, idle_grounds, board_pins_ground
 use Rattle.board.specs.Answers.{board_outcome}
 use Rattle.words.proofs.ChoiceLaws.{when_both, both, never}
 use Rattle.words.proofs.GroundLaws.{passed, Numbered}
-use Rattle.board.proofs.RefusalLaws.{named, taken}
-use Rattle.board.proofs.RefusalLaws.{number_said, front_refused, front_passed}
+use Rattle.board.proofs.RefusalLaws.{named, few, told_by, taken}
+use Rattle.board.proofs.RefusalLaws.{front_refused, front_passed}
 use Rattle.std.proofs.Common.{Option, Some, None, Ok, Err}
 use Rattle.board.proofs.ChipLaws.{chip_back}
 
 -- the number that an answer says is the refusal's own
-pub stated : (r : BoardOutcome) (gs : List (Ground ℕ)) (was next : Board) (told : Option ℕ) → named gs ≡ true → r ≡ board_outcome (refusal gs) was next told
-    → (r ≡ board_outcome (refusal gs) was next told) × (refusal_number r.answer ≡ refusal gs)
+pub stated : (r : BoardOutcome) (n : ℕ) (was next : Board) (told : Option ℕ) → n ≤ 15 → r ≡ board_outcome n was next told
+    → (r ≡ board_outcome n was next told) × (refusal_number r.answer ≡ n)
 unfolding board_outcome
-stated r gs was next told h e = (e, ap (λ (o : BoardOutcome). refusal_number o.answer) e ∙ number_said gs told h)
+stated r n was next told l e = (e, ap (λ (o : BoardOutcome). refusal_number o.answer) e ∙ told_by n told (eqb n 0) refl l)
+
+pub grounds_stated : (r : BoardOutcome) (gs : List (Ground ℕ)) (was next : Board) (told : Option ℕ) → named gs ≡ true → r ≡ board_outcome (refusal gs) was next told
+    → (r ≡ board_outcome (refusal gs) was next told) × (refusal_number r.answer ≡ refusal gs)
+grounds_stated r gs was next told h e = stated r (refusal gs) was next told (few gs h) e
 
 -- Refused.
 pub refused_is : (n : ℕ) (was next : Board) (told : Option ℕ) (r : Refusal) → refused n ≡ Some r → record { board = was; answer = Err r } ≡ board_outcome n was next told

@@ -78,7 +78,7 @@ number_back (suc (suc (suc (suc (suc (suc (suc (suc (suc (suc (suc (suc (suc (su
 number_back (suc (suc (suc (suc (suc (suc (suc (suc (suc (suc (suc (suc (suc (suc (suc (suc n)))))))))))))))) l z = absurd (omega arith)
 
 -- the number that an outcome's answer says is the refusal's own
-told_by : {A : Type 0} (n : ℕ) (told : A) (t : Bool) → eqb n 0 ≡ t → n ≤ 15 → number_in (when t (Ok told) (Err (numbered n))) ≡ n
+pub told_by : {A : Type 0} (n : ℕ) (told : A) (t : Bool) → eqb n 0 ≡ t → n ≤ 15 → number_in (when t (Ok told) (Err (numbered n))) ≡ n
 unfolding when
 told_by n told true e l = sym (eqb-true _ _ e)
 told_by n told false e l = number_back n l (eqb-false _ _ e)

@@ -33,7 +33,7 @@ use Rattle.demands.proofs.Turns.{place}
 use Rattle.demands.proofs.Fairness.{Early, picked_early, lowest_granted, after_write_kept, after_read_kept, run_kept}
 use Rattle.words.proofs.ChoiceLaws.{when_both, when_each, both}
 use Rattle.board.proofs.RefusalLaws.{number_said}
-use Rattle.board.proofs.OutcomeLaws.{stated, pair, each, grant_passed, picked_few}
+use Rattle.board.proofs.OutcomeLaws.{grounds_stated, pair, each, grant_passed, picked_few}
 use Rattle.board_demands.specs.Operations.{BoardOp, Write, Read, Pins, Reset, Waits, Grant, Run, Round, SheetWriting, SheetReading, next}
 use Rattle.board_demands.specs.Grants.{BoardGranted, granted as granted-on, told, round_grants, made, grants, channels}
 use Rattle.board_demands.specs.Fairness.{Traced, Trace, Contends, BoardFair, BoardDemand3, RoundGrantsAreGrants}
@@ -193,7 +193,7 @@ outcome_unmoved n b x a h = when_each (Unmoved b) (eqb n 0) (λ e. h (eqb-true _
 
 write_unmoved : (b : Board) (r x : ℕ) → Traced b (Write r x) → Unmoved b (next b (Write r x))
 write_unmoved b r x t =
-    outcome_unmoved _ b _ None (λ free. with_unmoved b (addressed r) _ (after_write_kept (chip b (addressed r)) (own r) x (λ e. t e ((stated _ _ _ _ None refl refl).1 ∙ free))))
+    outcome_unmoved _ b _ None (λ free. with_unmoved b (addressed r) _ (after_write_kept (chip b (addressed r)) (own r) x (λ e. t e ((grounds_stated _ _ _ _ None refl refl).1 ∙ free))))
 
 read_unmoved : (b : Board) (r : ℕ) → Unmoved b (next b (Read r))
 read_unmoved b r = outcome_unmoved _ b _ (Some _) (λ free. with_unmoved b (addressed r) _ (after_read_kept (chip b (addressed r)) (own r)))
@@ -209,7 +209,7 @@ waits_unmoved : (b : Board) (which : Chip) (n : ℕ) → Unmoved b (next b (Wait
 waits_unmoved b which n = outcome_unmoved _ b _ None (λ free. with_unmoved b which _ refl)
 
 reset_unmoved : (b : Board) → Traced b Reset → Unmoved b (next b Reset)
-reset_unmoved b t = outcome_unmoved _ b _ None (λ free. absurd (t tt ((stated _ _ _ _ None refl refl).1 ∙ free)))
+reset_unmoved b t = outcome_unmoved _ b _ None (λ free. absurd (t tt ((grounds_stated _ _ _ _ None refl refl).1 ∙ free)))
 
 run_unmoved : (b : Board) (m d r : List ℕ) (limit eop : ℕ) → Unmoved b (next b (Run m d r limit eop))
 unfolding board_ran_of

@@ -27,7 +27,7 @@ use Rattle.board_demands.specs.Refusals.{grounds, BoardRefuses, BoardDemand1}
 use Rattle.words.proofs.ChoiceLaws.{when_both, when_each, when_miss}
 use Rattle.board.proofs.ChipLaws.{chip_back}
 use Rattle.board.proofs.RefusalLaws.{named, few, number_back}
-use Rattle.board.proofs.OutcomeLaws.{stated}
+use Rattle.board.proofs.OutcomeLaws.{grounds_stated}
 use Rattle.board.proofs.RunLaws.{ran_is}
 use Rattle.demands.proofs.Refusals.{refusal_exactly, Zeros, demand_1}
 use Rattle.std.proofs.Common.{Option, Err}
@@ -57,7 +57,7 @@ plain : (b : Board) (op : BoardOp) (next : Board) (told : Option ℕ) → named 
     → before b op ≡ before b Reset
     → (¬ (refusal (grounds b op) ≡ 0) → Zeros (counts b op)) → BoardRefuses b op
 plain b op next told h is to from zeros =
-    refuses b op (is ∙ (stated _ (grounds b op) b next told h refl).1) (λ no. to ∙ ap (λ (x : Board). before x Reset) (outcome_stays _ b next told no) ∙ sym from) zeros
+    refuses b op (is ∙ (grounds_stated _ (grounds b op) b next told h refl).1) (λ no. to ∙ ap (λ (x : Board). before x Reset) (outcome_stays _ b next told no) ∙ sym from) zeros
 
 -- what is said exactly by the first ground is its number
 exact_number : (n : ℕ) (gs : List (Ground ℕ)) → ((k : ℕ) → ¬ (k ≡ 0) → (n ≡ k) ↔ own-refusals.First k gs) → n ≡ refusal gs

@@ -36,10 +36,10 @@ use Rattle.demands.specs.Operations.{Op, Write, Read, Pins, Reset, Waits, Grant,
 use Rattle.demands.specs.Refusals.{First, here, grounds}
 use Rattle.demands.specs.Calls.{Call, CCheck, CReset, CGrant, CEntitled, CStatus, CWrite, CRead, CPins, CWaits, CRun, CRound, CJudge, CSave, CLoad, looked, left_by, ran_by, round_by, judged_by, does, lent_to, call_grounds, CallRefuses, Demand1OfCalls, ChipsStayGood}
 use Rattle.words.proofs.ChoiceLaws.{when_both, when_each, when_miss}
-use Rattle.am9517.proofs.RefusalLaws.{number_told}
+use Rattle.am9517.proofs.RefusalLaws.{grounds_told}
 use Rattle.am9517_service.proofs.AnswerLaws.{run_refused}
 use Rattle.am9517_service.proofs.StatedLaws.{ran_told, round_told}
-use Rattle.am9517_sheet.proofs.SheetLaws.{number_said, write_done, write_free}
+use Rattle.am9517_sheet.proofs.SheetLaws.{grounds_said, write_done, write_free}
 use Rattle.am9517_sheet.proofs.BodyLaws.{zero_within}
 use Rattle.am9517_sheet.proofs.TripLaws.{written_read_lem}
 use Rattle.demands.proofs.Refusals.{refusal_exactly, Zeros, demand_1, round_refused}
@@ -110,20 +110,20 @@ calls_refuse : (s : Controller) (c : Call) → CallRefuses (does s c) (call_grou
 calls_refuse s CCheck = record { exactly = refusal_exactly (look_grounds s); stays = λ h. refl; only = λ h. also refl none }
 calls_refuse s CEntitled = look_refuses s _
 calls_refuse s CStatus = look_refuses s _
-calls_refuse s (CWrite r x) = by_operation s (Write r x) _ (λ h. also (no_value _ _ _ _ h) none) (number_told _ refl _ _ _)
-calls_refuse s (CRead r) = by_operation s (Read r) _ (λ h. also (no_value _ _ _ _ h) none) (number_told _ refl _ _ _)
-calls_refuse s (CPins p) = by_operation s (Pins p) _ (λ h. also (no_value _ _ _ _ h) none) (number_told _ refl _ _ _)
-calls_refuse s (CWaits n) = by_operation s (Waits n) _ (λ h. also (no_value _ _ _ _ h) none) (number_told _ refl _ _ _)
-calls_refuse s CReset = by_operation s Reset _ (λ h. also (no_value _ _ _ _ h) none) (number_told _ refl _ _ _)
-calls_refuse s CGrant = by_operation s Grant _ (λ h. also (no_value _ _ _ _ h) none) (number_told _ refl _ _ _)
+calls_refuse s (CWrite r x) = by_operation s (Write r x) _ (λ h. also (no_value _ _ _ _ h) none) (grounds_told _ refl _ _ _)
+calls_refuse s (CRead r) = by_operation s (Read r) _ (λ h. also (no_value _ _ _ _ h) none) (grounds_told _ refl _ _ _)
+calls_refuse s (CPins p) = by_operation s (Pins p) _ (λ h. also (no_value _ _ _ _ h) none) (grounds_told _ refl _ _ _)
+calls_refuse s (CWaits n) = by_operation s (Waits n) _ (λ h. also (no_value _ _ _ _ h) none) (grounds_told _ refl _ _ _)
+calls_refuse s CReset = by_operation s Reset _ (λ h. also (no_value _ _ _ _ h) none) (grounds_told _ refl _ _ _)
+calls_refuse s CGrant = by_operation s Grant _ (λ h. also (no_value _ _ _ _ h) none) (grounds_told _ refl _ _ _)
 calls_refuse s (CRun m d r limit eop) = run_refuses s m d r limit eop
 calls_refuse s (CRound m d r k) = round_refuses s m d r k
 calls_refuse s (CJudge m log) = judge_refuses s m log
-calls_refuse s (CSave form bytes) = by_operation s (SheetWriting form bytes) [] (λ h. none) (number_said _ refl)
-calls_refuse s (CLoad form bytes) = by_operation s (SheetReading form bytes) _ (λ h. also refl none) (number_said _ refl)
+calls_refuse s (CSave form bytes) = by_operation s (SheetWriting form bytes) [] (λ h. none) (grounds_said _ refl)
+calls_refuse s (CLoad form bytes) = by_operation s (SheetReading form bytes) _ (λ h. also refl none) (grounds_said _ refl)
 
 pub demand_1_of_calls : Demand1OfCalls
-demand_1_of_calls = record { calls = calls_refuse; conversions = λ s to source target. by_operation s (Converting to source target) [] (λ h. none) (number_said _ refl) }
+demand_1_of_calls = record { calls = calls_refuse; conversions = λ s to source target. by_operation s (Converting to source target) [] (λ h. none) (grounds_said _ refl) }
 
 number : (n : ℕ) → ¬ (suc n ≡ 0)
 number n e = omega arith
@@ -257,12 +257,12 @@ call_small : (s : Controller) (c : Call) → ((form : Form) (bytes : List ℕ) �
 call_small s CCheck f g = refusal_small _ (look_grounds s) refl (also (at_most 1 (omega arith)) none)
 call_small s CEntitled f g = refusal_small _ (look_grounds s) refl (also (at_most 1 (omega arith)) none)
 call_small s CStatus f g = refusal_small _ (look_grounds s) refl (also (at_most 1 (omega arith)) none)
-call_small s (CWrite r x) f g = refusal_small _ (call_grounds s (CWrite r x)) (number_told _ refl _ _ _) (also (at_most 1 (omega arith)) (also (at_most 2 (omega arith)) (also (at_most 3 (omega arith)) (also (at_most 4 (omega arith)) (also (at_most 5 (omega arith)) none)))))
-call_small s (CRead r) f g = refusal_small _ (call_grounds s (CRead r)) (number_told _ refl _ _ _) (also (at_most 1 (omega arith)) (also (at_most 2 (omega arith)) (also (at_most 3 (omega arith)) (also (at_most 4 (omega arith)) none))))
-call_small s (CPins p) f g = refusal_small _ (call_grounds s (CPins p)) (number_told _ refl _ _ _) (also (at_most 1 (omega arith)) (also (at_most 2 (omega arith)) none))
-call_small s (CWaits n) f g = refusal_small _ (call_grounds s (CWaits n)) (number_told _ refl _ _ _) (also (at_most 1 (omega arith)) (also (at_most 3 (omega arith)) none))
-call_small s CReset f g = refusal_small _ (call_grounds s CReset) (number_told _ refl _ _ _) (also (at_most 1 (omega arith)) none)
-call_small s CGrant f g = refusal_small _ (call_grounds s CGrant) (number_told _ refl _ _ _) (also (at_most 1 (omega arith)) (also (at_most 3 (omega arith)) (also (at_most 6 (omega arith)) none)))
+call_small s (CWrite r x) f g = refusal_small _ (call_grounds s (CWrite r x)) (grounds_told _ refl _ _ _) (also (at_most 1 (omega arith)) (also (at_most 2 (omega arith)) (also (at_most 3 (omega arith)) (also (at_most 4 (omega arith)) (also (at_most 5 (omega arith)) none)))))
+call_small s (CRead r) f g = refusal_small _ (call_grounds s (CRead r)) (grounds_told _ refl _ _ _) (also (at_most 1 (omega arith)) (also (at_most 2 (omega arith)) (also (at_most 3 (omega arith)) (also (at_most 4 (omega arith)) none))))
+call_small s (CPins p) f g = refusal_small _ (call_grounds s (CPins p)) (grounds_told _ refl _ _ _) (also (at_most 1 (omega arith)) (also (at_most 2 (omega arith)) none))
+call_small s (CWaits n) f g = refusal_small _ (call_grounds s (CWaits n)) (grounds_told _ refl _ _ _) (also (at_most 1 (omega arith)) (also (at_most 3 (omega arith)) none))
+call_small s CReset f g = refusal_small _ (call_grounds s CReset) (grounds_told _ refl _ _ _) (also (at_most 1 (omega arith)) none)
+call_small s CGrant f g = refusal_small _ (call_grounds s CGrant) (grounds_told _ refl _ _ _) (also (at_most 1 (omega arith)) (also (at_most 3 (omega arith)) (also (at_most 6 (omega arith)) none)))
 call_small s (CRun m d r limit eop) f g = refusal_small _ (call_grounds s (CRun m d r limit eop)) (ran_told s m d r limit eop) (run_small s m)
 call_small s (CJudge m log) f g = refusal_small _ (run_grounds s m) (judge_told s m log) (run_small s m)
 call_small s (CRound m d r k) f g = refusal_small _ (call_grounds s (CRound m d r k)) (round_told s m d r k) (also (at_most 1 (omega arith)) (also (at_most 2 (omega arith)) (also (at_most 7 (omega arith)) (also (at_most 3 (omega arith)) none))))
@@ -275,7 +275,7 @@ load_never_1 s form bytes = not_by_1 _ (SheetReading form bytes) (fresh_valid Am
 saved_and_loaded : (form : Form) (s t : Controller) (bytes : List ℕ) → length s.channels ≡ 4 → (does s (CSave form bytes)).refusal ≡ 0
     → does t (CLoad form (does s (CSave form bytes)).leaves.slice) ≡ record { refusal = 0; beside = 0 ∷ []; leaves = scene s [] [] [] }
 saved_and_loaded form s t bytes four free =
-    ap (λ (x : SheetRead). left_by (load_of x)) (written_read_lem form s t bytes four (ap (λ (w : Stored). w.answer) (write_done form s bytes (sym (number_said _ refl) ∙ free))))
+    ap (λ (x : SheetRead). left_by (load_of x)) (written_read_lem form s t bytes four (ap (λ (w : Stored). w.answer) (write_done form s bytes (sym (grounds_said _ refl) ∙ free))))
 
 fresh_in : (byte : ℕ) → valid (fresh byte) ≡ leb byte 1
 unfolding ◌and◌ mode_valid modes_valid fields_valid service_valid valid
@@ -303,7 +303,7 @@ chips_stay_good =
       by_one = out_of_ranges;
       load_never_by1 = load_never_1;
       saved2 = λ s bytes v room. ap sheet_refusal_number (full_written s bytes v room);
-      saved = λ s bytes v e w room. number_said _ refl ∙ write_free One s (length bytes) v room (zero_within s e w);
+      saved = λ s bytes v e w room. grounds_said _ refl ∙ write_free One s (length bytes) v room (zero_within s e w);
       unsaved = λ s bytes v e room. ap (λ (w : Stored). sheet_refusal_number w.answer) (other_refused s bytes v e room);
       loaded = saved_and_loaded;
     }

@@ -26,12 +26,12 @@ use Rattle.demands.specs.Fairness.{Traced, Trace, Contends, Fair, Demand3, Deman
 use Rattle.words.proofs.ChoiceLaws.{when_both, when_each, when_hit, when_miss}
 use Rattle.words.proofs.GroundLaws.{passed}
 use Rattle.am9517.proofs.RangeLaws.{ranges, fields, below4}
-use Rattle.am9517.proofs.RefusalLaws.{number_told}
+use Rattle.am9517.proofs.RefusalLaws.{grounds_told}
 use Rattle.am9517.proofs.ServingLaws.{picked_asked}
 use Rattle.am9517_service.proofs.AnswerLaws.{run_refused, run_accepted}
 use Rattle.am9517_service.proofs.KeepLaws.{run_left_lem}
 use Rattle.am9517_sheet.specs.declared.forms.Form.{Form}
-use Rattle.am9517_sheet.proofs.SheetLaws.{number_said}
+use Rattle.am9517_sheet.proofs.SheetLaws.{grounds_said}
 use Rattle.demands.proofs.Refusals.{refused_some}
 use Rattle.demands.proofs.Turns.{place, Turns, over, then, turns_fair}
 use Rattle.demands.proofs.Rounds.{round_is_calls_lem, calls_leave}
@@ -110,7 +110,7 @@ Path s (op ∷ ops) = Call op × Traced s op × Path (next s op) ops
 
 write_kept : (s : Controller) (r b : ℕ) → Traced s (Write r b) → (next s (Write r b)).lowest ≡ s.lowest
 write_kept s r b t =
-    outcome_kept s _ _ _ (λ free. after_write_kept s r b (λ e. t e (number_told _ refl _ _ _ ∙ free)))
+    outcome_kept s _ _ _ (λ free. after_write_kept s r b (λ e. t e (grounds_told _ refl _ _ _ ∙ free)))
 
 read_kept : (s : Controller) (r : ℕ) → (next s (Read r)).lowest ≡ s.lowest
 read_kept s r = outcome_kept s _ _ _ (λ free. after_read_kept s r)
@@ -122,11 +122,11 @@ waits_kept : (s : Controller) (n : ℕ) → (next s (Waits n)).lowest ≡ s.lowe
 waits_kept s n = outcome_kept s _ _ _ (λ free. refl)
 
 reset_kept : (s : Controller) → Traced s Reset → (next s Reset).lowest ≡ s.lowest
-reset_kept s t = outcome_kept s _ _ _ (λ free. absurd (t tt (number_told _ refl _ _ _ ∙ free)))
+reset_kept s t = outcome_kept s _ _ _ (λ free. absurd (t tt (grounds_told _ refl _ _ _ ∙ free)))
 
 reading_kept : (s : Controller) (form : Form) (bytes : List ℕ) → Traced s (SheetReading form bytes) → (next s (SheetReading form bytes)).lowest ≡ s.lowest
 reading_kept s form bytes t =
-    when_each (λ (x : Controller). x.lowest ≡ s.lowest) _ (λ e. absurd (t tt (number_said _ refl ∙ eqb-true _ _ e))) (λ e. refl)
+    when_each (λ (x : Controller). x.lowest ≡ s.lowest) _ (λ e. absurd (t tt (grounds_said _ refl ∙ eqb-true _ _ e))) (λ e. refl)
 
 -- In the order from the lowest the picked channel stands no later than place k, where an entitled one stands.
 pub record Early (low k n : ℕ) : Type 0 where

@@ -33,7 +33,7 @@ use Rattle.am9517.proofs.KeepLaws.{granted_kept}
 use Rattle.am9517_service.proofs.AnswerLaws.{run_refused, run_accepted}
 use Rattle.am9517_service.proofs.KeepLaws.{run_left_lem}
 use Rattle.am9517_service.proofs.GrantLaws.{picked_below}
-use Rattle.am9517_sheet.proofs.SheetLaws.{number_said, read_valid}
+use Rattle.am9517_sheet.proofs.SheetLaws.{grounds_said, read_valid}
 use Rattle.demands.proofs.AccessLaws.{cleared_ranges, write_ranges, read_ranges, pins_ranges, waits_ranges}
 use Rattle.demands.proofs.Refusals.{refused_some, demand_1}
 use Rattle.demands.proofs.Fairness.{open_run}
@@ -94,7 +94,7 @@ kept s (Converting to source out) v = v
 
 pub read : (s : Controller) (form : Form) (bytes : List ℕ) → said s (SheetReading form bytes) ≡ 0 → valid (next s (SheetReading form bytes)) ≡ true
 read s form bytes free =
-    let e = sym (number_said _ refl) ∙ free in
+    let e = sym (grounds_said _ refl) ∙ free in
     when_each Valid _ (λ z. read_valid form bytes e) (λ z. absurd (eqb-false _ _ z e))
 
 kept_all : (s : Controller) (ops : List Op) → valid s ≡ true → valid (after_all s ops) ≡ true

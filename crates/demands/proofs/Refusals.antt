@@ -16,10 +16,10 @@ use Rattle.demands.specs.Lists.{All, none, also}
 use Rattle.demands.specs.Operations.{Op, Write, Read, Pins, Reset, Waits, Grant, Run, Round, SheetWriting, SheetReading, Converting, before, after, said, counts, ran_scene, round_scene}
 use Rattle.demands.specs.Refusals.{First, here, later, grounds, Refuses, Demand1}
 use Rattle.words.proofs.ChoiceLaws.{when_miss}
-use Rattle.am9517.proofs.RefusalLaws.{number_told}
+use Rattle.am9517.proofs.RefusalLaws.{grounds_told}
 use Rattle.am9517_service.proofs.AnswerLaws.{run_refused}
 use Rattle.am9517_service.proofs.StatedLaws.{ran_told, round_told}
-use Rattle.am9517_sheet.proofs.SheetLaws.{number_said}
+use Rattle.am9517_sheet.proofs.SheetLaws.{grounds_said}
 use Rattle.std.proofs.Common.{Option, Some, Err}
 
 -- by whether the first ground holds, and what is known of those after it
@@ -82,16 +82,16 @@ round_zeros s m d r k h =
     rw (round_refused s m d r k h) (also refl (also refl (also refl (also refl (also refl (also refl (also refl (also refl none))))))))
 
 pub demand_1 : Demand1
-demand_1 s (Write r b) = refuses s (Write r b) (number_told _ refl _ _ _) (λ h. ap (λ (c : Controller). before c Reset) (outcome_stays _ _ _ _ h)) (λ h. none)
-demand_1 s (Read r) = refuses s (Read r) (number_told _ refl _ _ _) (λ h. ap (λ (c : Controller). before c Reset) (outcome_stays _ _ _ _ h)) (λ h. none)
-demand_1 s (Pins p) = refuses s (Pins p) (number_told _ refl _ _ _) (λ h. ap (λ (c : Controller). before c Reset) (outcome_stays _ _ _ _ h)) (λ h. none)
-demand_1 s (Waits n) = refuses s (Waits n) (number_told _ refl _ _ _) (λ h. ap (λ (c : Controller). before c Reset) (outcome_stays _ _ _ _ h)) (λ h. none)
-demand_1 s Reset = refuses s Reset (number_told _ refl _ _ _) (λ h. ap (λ (c : Controller). before c Reset) (outcome_stays _ _ _ _ h)) (λ h. none)
-demand_1 s Grant = refuses s Grant (number_told _ refl _ _ _) (λ h. ap (λ (c : Controller). before c Reset) (outcome_stays _ _ _ _ h)) (λ h. none)
+demand_1 s (Write r b) = refuses s (Write r b) (grounds_told _ refl _ _ _) (λ h. ap (λ (c : Controller). before c Reset) (outcome_stays _ _ _ _ h)) (λ h. none)
+demand_1 s (Read r) = refuses s (Read r) (grounds_told _ refl _ _ _) (λ h. ap (λ (c : Controller). before c Reset) (outcome_stays _ _ _ _ h)) (λ h. none)
+demand_1 s (Pins p) = refuses s (Pins p) (grounds_told _ refl _ _ _) (λ h. ap (λ (c : Controller). before c Reset) (outcome_stays _ _ _ _ h)) (λ h. none)
+demand_1 s (Waits n) = refuses s (Waits n) (grounds_told _ refl _ _ _) (λ h. ap (λ (c : Controller). before c Reset) (outcome_stays _ _ _ _ h)) (λ h. none)
+demand_1 s Reset = refuses s Reset (grounds_told _ refl _ _ _) (λ h. ap (λ (c : Controller). before c Reset) (outcome_stays _ _ _ _ h)) (λ h. none)
+demand_1 s Grant = refuses s Grant (grounds_told _ refl _ _ _) (λ h. ap (λ (c : Controller). before c Reset) (outcome_stays _ _ _ _ h)) (λ h. none)
 demand_1 s (Run m d r limit eop) =
     refuses s (Run m d r limit eop) (ran_told s m d r limit eop) (λ h. ap ran_scene (run_refused s m d r limit eop _ (refused_some _ h)))
     (λ h. rw (run_refused s m d r limit eop _ (refused_some _ h)) (also refl (also refl (also refl (also refl none)))))
 demand_1 s (Round m d r k) = refuses s (Round m d r k) (round_told s m d r k) (round_stays s m d r k) (round_zeros s m d r k)
-demand_1 s (SheetWriting form out) = refuses s (SheetWriting form out) (number_said _ refl) (λ h. ap (λ (xs : List ℕ). before s (SheetWriting form xs)) (when_miss _ _ _ (ne_eqb _ 0 h))) (λ h. none)
-demand_1 s (SheetReading form bytes) = refuses s (SheetReading form bytes) (number_said _ refl) (λ h. ap (λ (c : Controller). before c Reset) (when_miss _ _ _ (ne_eqb _ 0 h))) (λ h. none)
-demand_1 s (Converting to source out) = refuses s (Converting to source out) (number_said _ refl) (λ h. ap (λ (xs : List ℕ). before s (SheetWriting to xs)) (when_miss _ _ _ (ne_eqb _ 0 h))) (λ h. none)
+demand_1 s (SheetWriting form out) = refuses s (SheetWriting form out) (grounds_said _ refl) (λ h. ap (λ (xs : List ℕ). before s (SheetWriting form xs)) (when_miss _ _ _ (ne_eqb _ 0 h))) (λ h. none)
+demand_1 s (SheetReading form bytes) = refuses s (SheetReading form bytes) (grounds_said _ refl) (λ h. ap (λ (c : Controller). before c Reset) (when_miss _ _ _ (ne_eqb _ 0 h))) (λ h. none)
+demand_1 s (Converting to source out) = refuses s (Converting to source out) (grounds_said _ refl) (λ h. ap (λ (xs : List ℕ). before s (SheetWriting to xs)) (when_miss _ _ _ (ne_eqb _ 0 h))) (λ h. none)

@@ -48,7 +48,7 @@ use Rattle.owner.specs.Cases.{Holds, services, set_up, idle_with, ch, proved, re
 use Rattle.words.proofs.ChoiceLaws.{when_hit, never}
 use Rattle.am9517_service.proofs.AnswerLaws.{run_accepted}
 use Rattle.am9517_service.proofs.LegRunLaws.{run_ends}
-use Rattle.am9517_sheet.proofs.SheetLaws.{number_said}
+use Rattle.am9517_sheet.proofs.SheetLaws.{grounds_said}
 use Rattle.am9517_service.proofs.StatedLaws.{ran_told, round_told}
 use Rattle.std.proofs.Common.{Some, Ok}
 
@@ -152,14 +152,14 @@ round_says s m d r k w e = round_told s m d r k ∙ ap (λ (t : Bool). when (not
 sheet_writing_says : (form : Form) (s : Controller) (out : List ℕ) (n : ℕ) → length out ≡ n
     → said s (SheetWriting form out) ≡ when (not (valid s)) 1 (when (ltb n (sheet_size form)) 9 (when (exceeds form s) 15 0))
 unfolding refusal first
-sheet_writing_says form s out n h = number_said (sheet_write_grounds form s (length out)) refl ∙ ap (λ (k : ℕ). when (not (valid s)) 1 (when (ltb k (sheet_size form)) 9 (when (exceeds form s) 15 0))) h
+sheet_writing_says form s out n h = grounds_said (sheet_write_grounds form s (length out)) refl ∙ ap (λ (k : ℕ). when (not (valid s)) 1 (when (ltb k (sheet_size form)) 9 (when (exceeds form s) 15 0))) h
 
 sheet_reading_says : (form : Form) (s : Controller) (bytes : List ℕ) (n : ℕ) → length bytes ≡ n → n < sheet_size form → said s (SheetReading form bytes) ≡ 9
 unfolding refusal first
-sheet_reading_says form s bytes n h l = number_said (sheet_read_grounds form bytes) refl ∙ when_hit (ltb (length bytes) (sheet_size form)) 9 (first (sheet_faults form bytes) 0) (lt-ltb (length bytes) (sheet_size form) (omega arith))
+sheet_reading_says form s bytes n h l = grounds_said (sheet_read_grounds form bytes) refl ∙ when_hit (ltb (length bytes) (sheet_size form)) 9 (first (sheet_faults form bytes) 0) (lt-ltb (length bytes) (sheet_size form) (omega arith))
 
 converting_says : (to : Form) (s : Controller) (source out : List ℕ) (n : ℕ) → length out ≡ n → said s (Converting to source out) ≡ refusal (convert_grounds (other to) to source n)
-converting_says to s source out n h = number_said _ refl ∙ ap (λ (k : ℕ). refusal (convert_grounds (other to) to source k)) h
+converting_says to s source out n h = grounds_said _ refl ∙ ap (λ (k : ℕ). refusal (convert_grounds (other to) to source k)) h
 
 -- 65,536 transfers, by the law of a service that ends with its n-th transfer
 module _ (a : ℕ) (below : a < 65536) (m : List ℕ) where

@@ -27,7 +27,7 @@ use Rattle.requests.specs.Forms.{changed_at, fault_at, SheetForms}
 use Rattle.words.proofs.ChoiceLaws.{when_both, when_miss}
 use Rattle.am9517_sheet.proofs.BytesLaws.{placed_end}
 use Rattle.am9517_sheet.proofs.BodyLaws.{zero_within, other_exceeds}
-use Rattle.am9517_sheet.proofs.SheetLaws.{number_said, none_refuses, sheet_length, write_done, write_room, read_done, read_refused, read_room, read_faults}
+use Rattle.am9517_sheet.proofs.SheetLaws.{grounds_said, none_refuses, sheet_length, write_done, write_room, read_done, read_refused, read_room, read_faults}
 use Rattle.am9517_sheet.proofs.ConvertLaws.{convert_short, convert_fault, convert_free, convert_over, convert_done, convert_refused}
 use Rattle.requests.proofs.ConvertTripLaws.{source_read, convert_writes, convert_told, convert_back}
 use Rattle.requests.proofs.OtherFormLaws.{other_answers, other_refuses}
@@ -126,7 +126,7 @@ numbered_back false = refl
 never_misread_lem : (form : Form) (s t : Controller) (bytes : List ℕ) → (does s (CLoad form bytes)).refusal ≡ 0
     → does t (CLoad (other form) bytes) ≡ record { refusal = when (ltb (length bytes) (sheet_size (other form))) 9 11; beside = 0 ∷ []; leaves = scene t [] [] [] }
 never_misread_lem form s t bytes loaded =
-    let answered = other_answers form bytes (sym (number_said _ refl) ∙ loaded) in
+    let answered = other_answers form bytes (sym (grounds_said _ refl) ∙ loaded) in
     ap (λ (r : SheetRead). left_by (load_of r)) (read_refused (other form) bytes t _ answered (either _ 9 11 (number 9 (omega arith)) (number 11 (omega arith))))
     ∙ ap (λ (n : ℕ). looked t (record { refusal = n; value = 0 })) (numbered_back (ltb (length bytes) (sheet_size (other form))))
 

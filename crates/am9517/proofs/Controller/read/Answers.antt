@@ -13,7 +13,7 @@ use Rattle.am9517.specs.declared.Controller.{Controller}
 use Rattle.am9517.specs.declared.Outcome.{Outcome}
 use Rattle.am9517.specs.declared.refusals.Refusal.{Refusal}
 use Rattle.am9517.specs.Refusals.{refused, refusal, read_grounds}
-use Rattle.am9517.proofs.RefusalLaws.{accepted, denied, answered_is, stated, read_valid}
+use Rattle.am9517.proofs.RefusalLaws.{accepted, denied, answered_is, grounds_stated, read_valid}
 use Rattle.am9517.proofs.RegisterLaws.{read_register, port_value, port_left}
 use Rattle.am9517.proofs.RangeLaws.{fields}
 use Rattle.am9517.proofs.Controller.read.Goals as goal
@@ -56,7 +56,7 @@ pub returns : goal.returns
 unfolding after_read value first when port_read
 returns c =
     let s = c.args.self in let reg = c.args.reg in
-    stated _ _ _ _ (Some _) refl (
+    grounds_stated _ _ _ _ (Some _) refl (
     elim c.if-is_none.branch [
       | then-is_none+in-8 w ↦ given s reg _ _ _ _ c.answered-answer.ensures c.read_refusal-refusal.ensures _ _ (accepted _ _ _ c.read_refusal-refusal.ensures c.is_none.ensures w.if-is_none.true) w.next-is w.value-is (at s reg 8 _ w.in-8.is refl) (at_value s reg 8 _ w.in-8.is (sym w.status-value.ensures))
       | then-is_none+in-13 w ↦ given s reg _ _ _ _ c.answered-answer.ensures c.read_refusal-refusal.ensures _ _ (accepted _ _ _ c.read_refusal-refusal.ensures c.is_none.ensures w.if-is_none.true) w.next-is w.value-is (at s reg 0xD _ w.in-13.is refl) (at_value s reg 0xD _ w.in-13.is refl)

@@ -1,5 +1,5 @@
 use Rattle.std.proofs.Common.{Option, None}
-use Rattle.am9517.proofs.RefusalLaws.{accepted, denied, answered_is, stated}
+use Rattle.am9517.proofs.RefusalLaws.{accepted, denied, answered_is, grounds_stated}
 use Prim.Native.Nat.{ℕ, ◌/◌, ◌%◌, ◌≤◌}
 use mathlib.Core.Path.{◌≡◌, refl, sym, ap, ◌∙◌}
 use native.Mathlib.Nat.{mod-eq_of_lt}
@@ -34,12 +34,12 @@ module _
   unfolding outcome when
   stored k x y z h e b =
       let b' : after_write s reg byte ≡ x = ap (λ (r : ℕ). after_write s r byte) h ∙ b in
-      stated _ _ _ _ None refl (simp (told ∙ answered_is (refusal (write_grounds s reg byte)) no None is, eq-eqb _ _ z, e, b'))
+      grounds_stated _ _ _ _ None refl (simp (told ∙ answered_is (refusal (write_grounds s reg byte)) no None is, eq-eqb _ _ z, e, b'))
 
   -- refused: it is the old one
   kept : (y : Controller) → (refusal (write_grounds s reg byte) ≡ 0 → ⊥) → y ≡ s → Told y
   unfolding outcome when
-  kept y z e = stated _ _ _ _ None refl (simp (told ∙ answered_is (refusal (write_grounds s reg byte)) no None is, ne_eqb _ _ z, e))
+  kept y z e = grounds_stated _ _ _ _ None refl (simp (told ∙ answered_is (refusal (write_grounds s reg byte)) no None is, ne_eqb _ _ z, e))
 
 pub returns-in-8 : goal.returns-in-8
 unfolding after_write first when
