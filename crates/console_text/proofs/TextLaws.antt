@@ -1,15 +1,17 @@
 -- Laws of text put on a page.
-use Prim.Native.Nat.{ℕ, zero, suc, ◌+◌, ◌≤◌, ◌<◌}
-use mathlib.Core.Path.{◌≡◌, refl, ap, ◌∙◌}
+use Prim.Native.Nat.{ℕ, zero, suc, ◌+◌, ◌-◌, ◌≤◌, ◌<◌}
+use mathlib.Core.Path.{◌≡◌, refl, sym, ap, ◌∙◌}
 use mathlib.Core.Bool.{Bool, ◌&&◌}
 use mathlib.Core.List.{List, [], ◌∷◌, ◌++◌, append-nil}
 use native.Mathlib.Omega.{arith}
 use native.Mathlib.Numerals.{add-one}
 use lib.ListN.{length, get_or, take, drop, set, replicate, length-set, drop_of_length-le}
-use lib.Seq.{drop-cons, take-suc, sets, sets-eq, take-append_seam}
+use lib.Seq.{drop-cons, take-suc, sets, sets-eq, take-append_seam, take-length, paste}
 use lib.Dec.{eqb}
 use Rattle.std.specs.Prelude.{nat_eq}
 use Rattle.std.specs.Cmp.Lexicographic.{pointwise}
+use borrow.Rule.Slice.PartMut.{put_mid}
+use Rattle.std.proofs.lemmas.Slice.{put_mid-paste}
 use borrow.Author.Tests.{lt-ltb}
 use Rattle.words.specs.Choice.{when}
 use Rattle.console_text.specs.Text.{same, Page, page, put_byte, put}
@@ -55,6 +57,14 @@ put_sets (b ∷ bs) xs at h =
 pub put_room : (bs xs : List ℕ) (at : ℕ) → at + length bs ≤ length xs
     → put (page xs at) bs ≡ page (take at xs ++ bs ++ drop (at + length bs) xs) (at + length bs)
 put_room bs xs at h = put_sets bs xs at h ∙ ap (λ (l : List ℕ). page l (at + length bs)) (sets-eq bs xs at h)
+
+-- so one copy into a part of the slice puts a text that finds room
+pub put_fitting : (bs xs ys : List ℕ) (at k n : ℕ) → ys ≡ bs → n ≡ k → n ≡ length bs → at ≤ length xs → n ≤ length xs - at
+    → page (put_mid at k xs ys) (at + n) ≡ put (page xs at) bs
+put_fitting bs xs ys at k n e same size h r =
+    let fits : at + length bs ≤ length xs = omega (arith, size) in
+    let full : put (page xs at) bs ≡ page (paste xs at bs n) (at + n) = put_room bs xs at fits ∙ rw (size, take-length bs) refl in
+    ap (λ (l : List ℕ). page l (at + n)) (put_mid-paste at k xs ys bs n e same size) ∙ sym full
 
 -- One character more of a text, and one copy more of a byte, are one byte more on the page.
 pub put_more : (p : Page) (s : List ℕ) (i : ℕ) → i < length s → put p (take (i + 1) s) ≡ put_byte (put p (take i s)) (get_or s i 0)

@@ -16,7 +16,7 @@ pub fn byte(out: &mut [u8], at: usize, b: u8) -> usize
 }
 
 #[tactic(auto, using(crate::proofs::TextLaws::put_more, crate::proofs::TextLaws::put_none))]
-pub fn text(out: &mut [u8], at: usize, s: &[u8]) -> usize
+fn put_each(out: &mut [u8], at: usize, s: &[u8]) -> usize
     ensures { page out.new result ≡ put (page out.old at) s.now }
 {
     let mut next = at;
@@ -24,6 +24,19 @@ pub fn text(out: &mut [u8], at: usize, s: &[u8]) -> usize
         next = byte(out, next, b);
     }
     next
+}
+
+// One copy where there is room for all: of a text whose length is known, that is a few moves.
+#[tactic(auto, using(crate::proofs::TextLaws::put_fitting))]
+pub fn text(out: &mut [u8], at: usize, s: &[u8]) -> usize
+    ensures { page out.new result ≡ put (page out.old at) s.now }
+{
+    let n = s.len();
+    if at <= out.len() && n <= out.len() - at {
+        out[at..at + n].copy_from_slice(s);
+        return at + n;
+    }
+    put_each(out, at, s)
 }
 
 // n copies of a byte.
