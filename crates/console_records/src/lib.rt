@@ -5,6 +5,29 @@ use logs::Record;
 use std::fmt;
 use std::fmt::{Display, Formatter, Write};
 
+// Each byte as two hexadecimal digits and an h, and the digits: read off here, for a trace has many, and the formatter is dearer.
+const HEX: &str =
+    "00h01h02h03h04h05h06h07h08h09h0ah0bh0ch0dh0eh0fh10h11h12h13h14h15h16h17h18h19h1ah1bh1ch1dh1eh1fh\
+20h21h22h23h24h25h26h27h28h29h2ah2bh2ch2dh2eh2fh30h31h32h33h34h35h36h37h38h39h3ah3bh3ch3dh3eh3fh\
+40h41h42h43h44h45h46h47h48h49h4ah4bh4ch4dh4eh4fh50h51h52h53h54h55h56h57h58h59h5ah5bh5ch5dh5eh5fh\
+60h61h62h63h64h65h66h67h68h69h6ah6bh6ch6dh6eh6fh70h71h72h73h74h75h76h77h78h79h7ah7bh7ch7dh7eh7fh\
+80h81h82h83h84h85h86h87h88h89h8ah8bh8ch8dh8eh8fh90h91h92h93h94h95h96h97h98h99h9ah9bh9ch9dh9eh9fh\
+a0ha1ha2ha3ha4ha5ha6ha7ha8ha9haahabhachadhaehafhb0hb1hb2hb3hb4hb5hb6hb7hb8hb9hbahbbhbchbdhbehbfh\
+c0hc1hc2hc3hc4hc5hc6hc7hc8hc9hcahcbhcchcdhcehcfhd0hd1hd2hd3hd4hd5hd6hd7hd8hd9hdahdbhdchddhdehdfh\
+e0he1he2he3he4he5he6he7he8he9heahebhechedheehefhf0hf1hf2hf3hf4hf5hf6hf7hf8hf9hfahfbhfchfdhfehffh";
+
+const DECIMAL: &str = "0123456789";
+
+fn hex(b: u8) -> &'static str {
+    let at = 3 * usize::from(b);
+    HEX.get(at..at + 2).unwrap_or("")
+}
+
+fn hex_h(b: u8) -> &'static str {
+    let at = 3 * usize::from(b);
+    HEX.get(at..at + 3).unwrap_or("")
+}
+
 // The flags that are set, each with a blank before it.
 #[derive(Clone, Copy)]
 pub struct Flags(pub u8);
@@ -17,25 +40,50 @@ impl Display for Flags {
             }
         }
         if 8 <= self.0 {
-            write!(f, " flags {:02x}h", self.0)?;
+            f.write_str(" flags ")?;
+            f.write_str(hex_h(self.0))?;
         }
         Ok(())
     }
 }
 
-// The number of a kind.
+// The number of a kind, between blanks.
 #[derive(Clone, Copy)]
 struct Kind(u8);
 
 impl Display for Kind {
     fn fmt<W: Write>(&self, f: &mut Formatter<W>) -> fmt::Result {
         match self.0 {
-            0 => f.write_str("verify"),
-            1 => f.write_str("write"),
-            2 => f.write_str("read"),
-            3 => f.write_str("memory-to-memory"),
-            kind => write!(f, "kind {kind}"),
+            0 => f.write_str(" verify "),
+            1 => f.write_str(" write "),
+            2 => f.write_str(" read "),
+            3 => f.write_str(" memory-to-memory "),
+            kind => write!(f, " kind {kind} "),
         }
+    }
+}
+
+#[derive(Clone, Copy)]
+struct Channel(u8);
+
+impl Display for Channel {
+    fn fmt<W: Write>(&self, f: &mut Formatter<W>) -> fmt::Result {
+        let at = usize::from(self.0);
+        match DECIMAL.get(at..at + 1) {
+            Some(digit) => f.write_str(digit),
+            None => write!(f, "{}", self.0),
+        }
+    }
+}
+
+#[derive(Clone, Copy)]
+struct Address(u16);
+
+impl Display for Address {
+    fn fmt<W: Write>(&self, f: &mut Formatter<W>) -> fmt::Result {
+        let [high, low] = self.0.to_be_bytes();
+        f.write_str(hex(high))?;
+        f.write_str(hex_h(low))
     }
 }
 
@@ -53,14 +101,19 @@ impl Display for Transfer {
             byte,
             flags: _,
         } = self.0;
-        write!(f, "channel {channel} {} {address:04x}h", Kind(kind))?;
+        f.write_str("channel ")?;
+        Channel(channel).fmt(f)?;
+        Kind(kind).fmt(f)?;
+        Address(address).fmt(f)?;
         // where there should be one or is one
         if (kind == 3) | (second != 0) {
-            write!(f, " to {second:04x}h")?;
+            f.write_str(" to ")?;
+            Address(second).fmt(f)?;
         }
         // a verify has none
         if (kind != 0) | (byte != 0) {
-            write!(f, " byte {byte:02x}h")?;
+            f.write_str(" byte ")?;
+            f.write_str(hex_h(byte))?;
         }
         Ok(())
     }

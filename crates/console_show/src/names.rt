@@ -3,6 +3,22 @@ use am9517::modes::{active_low, autoinitialize, compressed, decrement, disabled,
 use std::fmt;
 use std::fmt::{Display, Formatter, Write};
 
+// Hexadecimal, digit by digit: a table has many, and the formatter is dearer.
+const DIGITS: &str = "0123456789abcdef";
+
+#[derive(Clone, Copy)]
+pub(crate) struct Word(pub(crate) u16);
+
+impl Display for Word {
+    fn fmt<W: Write>(&self, f: &mut Formatter<W>) -> fmt::Result {
+        for shift in [12, 8, 4, 0] {
+            let digit = usize::from(self.0 >> shift & 15);
+            f.write_str(DIGITS.get(digit..digit + 1).unwrap_or(""))?;
+        }
+        Ok(())
+    }
+}
+
 #[derive(Clone, Copy)]
 pub(crate) struct Mode(pub(crate) u8);
 

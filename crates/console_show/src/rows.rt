@@ -5,7 +5,7 @@ ghost use Rattle.std.specs.Iterator.{at_most};
 use crate::advice::{COMMANDS, REFUSALS};
 
 // The columns of a row that hold a command's form; what it does stands behind them.
-const FORM: usize = 22;
+pub const FORM: usize = 22;
 
 // The columns of a refusal's row before its words.
 const NUMBER: usize = 4;

@@ -1,7 +1,7 @@
 // The state as a table, a row a channel, and what the console holds beside it.
 ghost use Rattle.std.specs.Prelude.{◌≡◌, ◌+◌};
 
-use crate::names::{Command, Edition, Mode, Waits};
+use crate::names::{Command, Edition, Mode, Waits, Word};
 use crate::page::put;
 use am9517::modes::{address_hold, memory_to_memory_bit};
 use am9517::{Channel, Controller};
@@ -51,9 +51,9 @@ impl<'a> Numbered<'a> {
     }
 }
 
-// What is one bit of a channel: a word where it is so, else -.
-fn flag(is_so: bool, word: &'static str) -> &'static str {
-    if is_so { word } else { "-" }
+// What is one bit of a channel: a word where it is so, else -; with the blanks of its column, which are dear to count.
+fn flag(is_so: bool, word: &'static str, none: &'static str) -> &'static str {
+    if is_so { word } else { none }
 }
 
 // Its channels, a row each.
@@ -75,13 +75,17 @@ impl Display for ChannelRows<'_> {
             } = *channel;
             writeln!(
                 f,
-                "{:<8}{base_address:04x} {address:04x}  {base_count:04x} {count:04x}  {:<7}{:<5}{:<8}{:<4}{:<9}{}",
+                "{}       {} {}  {} {}  {}{}{}{}{}{}",
                 self.0.channel(n),
-                flag(c.active(place), "active"),
-                flag(is_set(c.mask, place), "set"),
-                flag(is_set(c.request, place), "set"),
-                flag(is_set(c.tc, place), "set"),
-                flag(is_set(entitled, place), "yes"),
+                Word(base_address),
+                Word(address),
+                Word(base_count),
+                Word(count),
+                flag(c.active(place), "active ", "-      "),
+                flag(is_set(c.mask, place), "set  ", "-    "),
+                flag(is_set(c.request, place), "set     ", "-       "),
+                flag(is_set(c.tc, place), "set ", "-   "),
+                flag(is_set(entitled, place), "yes      ", "-        "),
                 Mode(mode),
             )?;
         }

@@ -13,17 +13,20 @@ impl Display for Made {
             states,
             has_s1,
         } = *self;
-        write!(
-            f,
-            "# service {service} {}, {states} states",
-            Transfer(record)
-        )?;
-        if has_s1 {
-            f.write_str(" with S1")?;
+        write!(f, "# service {service} ")?;
+        Transfer(record).fmt(f)?;
+        let end = match (has_s1, record.flags != 0) {
+            (false, false) => " states\n",
+            (true, false) => " states with S1\n",
+            (false, true) => " states,",
+            (true, true) => " states with S1,",
+        };
+        write!(f, ", {states}")?;
+        f.write_str(end)?;
+        if record.flags == 0 {
+            return Ok(());
         }
-        if record.flags != 0 {
-            write!(f, ",{}", Flags(record.flags))?;
-        }
+        Flags(record.flags).fmt(f)?;
         f.write_str("\n")
     }
 }

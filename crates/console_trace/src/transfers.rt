@@ -1,18 +1,15 @@
 // Transfer by transfer: each is the service's own run with limit 1, its record the one that the rules make next.
 use crate::{Course, Traced};
 use am9517_service::{Ran, Reason, run};
+use console_show::page::put;
 use console_text::page::text;
 use logs::{Record, bytes_of, next_record};
-use std::fmt::InlineText;
 use words::bytes::high_byte;
 
 // So many transfers are traced at a time, for their lines wait on a page.
 const CHUNK: usize = 512;
 
 const MEMORY: usize = 65536;
-
-// No line has more bytes.
-type Line = InlineText<256>;
 
 // One transfer: the number of its service, its record, its states, and whether S1 is among them.
 #[derive(Clone, Copy)]
@@ -123,7 +120,7 @@ pub fn go_on(
     for made in transfers.by_ref().take(CHUNK) {
         filled = text(records, filled, &bytes_of(made.record));
         if is_on {
-            at = text(out, at, Line::of(made).as_str().as_bytes());
+            at = put(out, at, made);
         }
     }
     Traced {
