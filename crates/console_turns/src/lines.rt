@@ -1,4 +1,6 @@
 // A line is answered.
+ghost use Rattle.std.specs.Prelude.{◌≡◌, take, length};
+
 use crate::session::{Outcome, Session, Typing};
 use console_files::{Task, Told, answer_of, prepare, put_file, say};
 use console_text::line::said;
@@ -22,7 +24,9 @@ fn is_plain(answer: &[u8]) -> bool {
 }
 
 // The command without blanks at its end.
-fn trimmed(line: &[u8]) -> &[u8] {
+fn trimmed(line: &[u8]) -> &[u8]
+    ensures { result.now ≡ take (length result.now) line.now }
+{
     match line.iter().rposition(|&b| b != b' ') {
         Some(i) => &line[..i + 1],
         None => b"",

@@ -1,5 +1,6 @@
 // A session: more of the script is read, or lines of it are answered and told, turn by turn.
-use crate::answers::Answers;
+use crate::answers;
+use crate::answers::Expected;
 use crate::part::Part;
 use crate::script::Script;
 use console_commands::Console;
@@ -56,7 +57,7 @@ impl Arrays {
     }
 }
 
-// The script under its name, and the number of its last line; what the console holds; the answers expected, where there are any; what is
+// The script under its name, and the number of its last line; what the console holds; the answers expected, where there are any, and the part of their file; what is
 // traced, and whether its lines could not be written, behind which `trace on` may still come; the line under way; the answers that wait, of which one of 70,000 bytes has room
 // with its line before it; words for people, or a file's name.
 #[derive(Drop)]
@@ -70,7 +71,8 @@ pub(crate) struct Session<'a> {
     pub number: u64,
     pub console: Console,
     pub arrays: Arrays,
-    pub answers: Option<Answers<'a>>,
+    pub answers: Option<Expected<'a>>,
+    pub wanted: answers::Part,
     pub is_tracing: bool,
     pub is_trace_lost: bool,
     pub log: Log,
@@ -202,7 +204,7 @@ impl<'a> Session<'a> {
             return self.outcome;
         }
         if let Some(answers) = &mut self.answers
-            && !answers.are_over()
+            && !answers.are_over(&mut self.wanted)
         {
             return Outcome::Failed;
         }
@@ -217,7 +219,7 @@ pub fn run<'a>(
     way: Way,
     script: Script,
     name: &'a [u8],
-    answers: Option<Answers<'a>>,
+    answers: Option<Expected<'a>>,
 ) -> Outcome {
     let mut session = Session {
         rt,
@@ -230,6 +232,7 @@ pub fn run<'a>(
         console: Console::fresh(),
         arrays: Arrays::new(),
         answers,
+        wanted: [0; 65536],
         is_tracing: false,
         is_trace_lost: false,
         log: Log::Off,

@@ -1,9 +1,9 @@
 // An answer is told: held against the one expected, and explained where it is `error` or `refused`.
 use crate::lines::Saying;
-use crate::session::{Outcome, Session, Typing};
+use crate::session::{Outcome, Session, Typing, Way};
 use console_commands::Console;
 use console_explain::{Held, explain};
-use console_files::say;
+use console_files::{Name, say};
 use console_text::line::said;
 use std::ops::ControlFlow;
 
@@ -20,25 +20,25 @@ fn holding(console: Console) -> Held {
     }
 }
 
+// Where in the script: its name, unless a person types it, and the line's number.
+fn note_place(way: Way, name: &[u8], number: u64, notes: &mut Name) {
+    notes.truncate(0);
+    if way.typing == Typing::Asked {
+        notes.text(b"line ");
+    } else {
+        notes.text(name);
+        notes.text(b":");
+    }
+    notes.decimal(number);
+    notes.text(b": ");
+}
+
 impl<'a> Session<'a> {
     // Where the reader of the answers has gone, there is nobody to read these.
     fn write_notes(&self) {
         if self.outcome != Outcome::Unheard {
             say(self.rt, self.notes.as_slice());
         }
-    }
-
-    // Where in the script: its name, unless a person types it, and the line's number.
-    fn note_place(&mut self) {
-        self.notes.truncate(0);
-        if self.way.typing == Typing::Asked {
-            self.notes.text(b"line ");
-        } else {
-            self.notes.text(self.name);
-            self.notes.text(b":");
-        }
-        self.notes.decimal(self.number);
-        self.notes.text(b": ");
     }
 
     // Why the answer that begins there was given, in words behind those on the notes.
@@ -61,7 +61,7 @@ impl<'a> Session<'a> {
 
     // Says why, unless that is plain; the answers before it are written first.
     fn explain(&mut self, start: usize) -> ControlFlow<()> {
-        self.note_place();
+        note_place(self.way, self.name, self.number, &mut self.notes);
         let before = self.notes.len;
         self.note_cause(start);
         let flushed = self.flush();
@@ -73,14 +73,14 @@ impl<'a> Session<'a> {
 
     // The answer must be the one expected, where there is one.
     fn compare(&mut self, start: usize) -> ControlFlow<()> {
-        self.note_place();
         let Some(answers) = &mut self.answers else {
             return ControlFlow::Continue(());
         };
-        let Err((before, behind)) = answers.compare(self.out.behind(start)) else {
+        let Err((before, behind)) = answers.compare(&mut self.wanted, self.out.behind(start)) else {
             return ControlFlow::Continue(());
         };
-        answers.note_difference(before, behind, &mut self.notes);
+        note_place(self.way, self.name, self.number, &mut self.notes);
+        answers.note_difference(&self.wanted, before, behind, &mut self.notes);
         self.write_notes();
         self.fail(Outcome::Failed);
         ControlFlow::Break(())

@@ -7,7 +7,7 @@ mod options;
 
 use console_files::{open_read, report};
 use console_judge::{UNHEARD, judge_files};
-use console_turns::{Answers, Outcome, Script, Typing, Way, complain, run};
+use console_turns::{Expected, Outcome, Script, Typing, Way, complain, run};
 use options::{
     Asked, Named, Options, argument, argument_count, complain_of, judge_at, read_options, say_help,
     say_version,
@@ -57,7 +57,7 @@ fn opened(rt: HostRuntime, name: &[u8]) -> Result<File, Outcome> {
 fn run_script<'a>(
     rt: HostRuntime,
     options: Options,
-    answers: Option<Answers<'a>>,
+    answers: Option<Expected<'a>>,
 ) -> Result<Outcome, Outcome> {
     let Some(Named::File(i)) = options.script else {
         let way = way_of(options, rt.stdin().is_terminal());
@@ -74,7 +74,7 @@ fn run_as_asked(rt: HostRuntime, options: Options) -> Result<Outcome, Outcome> {
     if let Some(i) = options.answers {
         let name = argument(rt, i);
         let file = opened(rt, name.as_slice())?;
-        let answers = Answers::new(rt, file, name.as_slice());
+        let answers = Expected::new(rt, file, name.as_slice());
         return run_script(rt, options, Some(answers));
     }
     if !matches!(options.script, Some(Named::File(_))) && is_terminal(rt) {
@@ -106,7 +106,8 @@ fn status_of(rt: HostRuntime, options: Options) -> u8 {
     }
 }
 
-// The log that is named behind --judge, at this place among the arguments.
+// The log that is named behind --judge, at this place among the arguments. Its arrays would stand on a session's stack, too.
+#[inline(never)]
 fn judge_named(rt: HostRuntime, at: usize) -> u8
     requires { at ≤ 2 }
 {
