@@ -73,7 +73,7 @@ fn services_said(services: &[u32], out: &mut [u8], at: usize) -> usize
 }
 
 // What a run did.
-fn run_said(answer: RunAnswer, counts: Counts, out: &mut [u8], at: usize) -> usize
+pub fn run_said(answer: RunAnswer, counts: Counts, out: &mut [u8], at: usize) -> usize
     ensures { page out.new result ≡ put (page out.old at) (run_text answer counts) }
 {
     match answer {
@@ -104,7 +104,7 @@ fn end_said(end: RoundEnd, out: &mut [u8], at: usize) -> usize
 }
 
 // What a round did: as many services as there are channels.
-fn round_said(
+pub fn round_said(
     answer: RoundAnswer,
     services: &[u32],
     totals: Counts,

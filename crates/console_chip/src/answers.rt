@@ -64,7 +64,7 @@ pub fn bytes_said(out: &mut [u8], at: usize, s: &[u8]) -> usize
 }
 
 #[tactic(auto, unfolding(crate::specs::Answers::value_text))]
-fn value(out: &mut [u8], at: usize, v: u8, kind: ValueKind) -> usize
+pub fn value(out: &mut [u8], at: usize, v: u8, kind: ValueKind) -> usize
     ensures { page out.new result ≡ put (page out.old at) (value_text kind v) }
 {
     match kind {
@@ -74,7 +74,7 @@ fn value(out: &mut [u8], at: usize, v: u8, kind: ValueKind) -> usize
 }
 
 #[tactic(auto, unfolding(crate::specs::Answers::answer_text))]
-fn answered(out: &mut [u8], at: usize, answer: Answer, kind: ValueKind) -> usize
+pub fn answered(out: &mut [u8], at: usize, answer: Answer, kind: ValueKind) -> usize
     ensures { page out.new result ≡ put (page out.old at) (answer_text kind answer) }
 {
     match answer {

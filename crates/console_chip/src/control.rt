@@ -88,15 +88,22 @@ pub fn make_fresh(out: &mut [u8], at: usize) -> Spoken<Controller>
     agree(out, at, Controller::fresh(Edition::Am9517A))
 }
 
+pub fn edition_of(e: u32) -> Edition
+    requires { e ≤ 1 }
+    ensures { number_of result ≡ e }
+{
+    match e {
+        0 => Edition::Am9517A,
+        _ => Edition::Intel8237A,
+    }
+}
+
 // The edition that a word says, 0 Am9517A or 1 Intel.
 #[tactic(auto, using(console_text::proofs::NumberLaws::number_fits))]
 pub fn edition_in(word: &[u8]) -> Option<Edition>
     ensures { option_map number_of result ≡ Numbers·number_of 1 word.now }
 {
-    match number_of(word, 1)? {
-        0 => Some(Edition::Am9517A),
-        _ => Some(Edition::Intel8237A),
-    }
+    Some(edition_of(number_of(word, 1)?))
 }
 
 #[tactic(auto, using(console_text::proofs::NumberLaws::number_fits), unfolding(crate::specs::Answers::numbered))]

@@ -13,13 +13,13 @@ use console_text::hex::{is_bytes, store};
 use console_text::numbers::number_of;
 
 // The longest slice that a sheet is written into.
-const SLICE: usize = 70000;
+pub const SLICE: usize = 70000;
 
 // What each byte of that slice is before.
-const BEFORE: u8 = 0xEE;
+pub const BEFORE: u8 = 0xEE;
 
 #[tactic(auto, unfolding(crate::specs::Sheets::sheet_said))]
-fn sheet_said(answer: SheetAnswer, bytes: &[u8], out: &mut [u8], at: usize) -> usize
+pub fn sheet_said(answer: SheetAnswer, bytes: &[u8], out: &mut [u8], at: usize) -> usize
     ensures { page out.new result ≡ put (page out.old at) (sheet_said answer (bytes_answer bytes.now)) }
 {
     match answer {
@@ -136,7 +136,7 @@ pub fn load(
     loaded(out, at, told.controller, told.answer)
 }
 
-#[tactic(auto, using(std::proofs::lemmas::Bool::Decides::nat_tests), unfolding(words::specs::Choice::when))]
+#[tactic(auto, using(std::proofs::lemmas::Bool::Decides::nat_tests), unfolding(crate::specs::Answers::numbered, words::specs::Choice::when))]
 pub fn convert(
     to: Form,
     c: Controller,
@@ -151,6 +151,10 @@ pub fn convert(
     let Some(source) = bytes_of(digits, spare) else {
         return fault(out, at, c);
     };
+    // asked here, too: a slice is dear to make for none
+    if number_of(size, 70000).is_none() {
+        return fault(out, at, c);
+    }
     let mut target = [0u8; SLICE];
     stored(c, size, &mut target, out, at, |slice| {
         am9517_sheet::convert(to, source, slice)
