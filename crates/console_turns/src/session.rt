@@ -200,6 +200,8 @@ impl<'a> Session<'a> {
         if self.way.typing == Typing::Asked && self.is_ending {
             let _ = self.rt.write_all(b"\n");
         }
+        // who writes the answers expected may wait for its end
+        self.log = Log::Off;
         if self.outcome != Outcome::Well {
             return self.outcome;
         }
