@@ -5,12 +5,12 @@ ghost use Rattle.std.specs.Prelude.{◌≤◌};
 
 mod options;
 
-use console_files::{open_read, report};
+use console_files::{Page, open_read, report};
 use console_judge::{UNHEARD, judge_files};
 use console_turns::{Expected, Outcome, Script, Typing, Way, complain, run};
 use options::{
-    Asked, Named, Options, argument, argument_count, complain_of, judge_at, read_options, say_help,
-    say_version,
+    Argument, Asked, Named, Options, argument, argument_count, complain_of, judge_at, put_argument,
+    read_options, say_help, say_version,
 };
 use std::fs::File;
 use std::io::{IsTerminal, Print};
@@ -118,9 +118,12 @@ fn judge_named(rt: HostRuntime, at: usize) -> u8
         );
         return 2;
     }
-    let sheet = argument(rt, at + 1);
-    let image = argument(rt, at + 2);
-    let log = argument(rt, at + 3);
+    let mut sheet: Argument = Page::new();
+    let mut image: Argument = Page::new();
+    let mut log: Argument = Page::new();
+    put_argument(rt, at + 1, &mut sheet);
+    put_argument(rt, at + 2, &mut image);
+    put_argument(rt, at + 3, &mut log);
     judge_files(rt, sheet.as_slice(), image.as_slice(), log.as_slice())
 }
 
@@ -133,12 +136,18 @@ fn reported(rt: HostRuntime, status: u8, is_reporting: bool) -> ExitCode {
     ExitCode::SUCCESS
 }
 
+// A script. The places for its arguments would stand on the stack of judging, too.
+#[inline(never)]
+fn run_named(rt: HostRuntime) -> ExitCode {
+    let options = read_options(rt);
+    let status = status_of(rt, options);
+    reported(rt, status, options.is_reporting)
+}
+
 fn main(rt: HostRuntime) -> ExitCode {
     if let Some(at) = judge_at(rt) {
         let status = judge_named(rt, at);
         return reported(rt, status, at == 2);
     }
-    let options = read_options(rt);
-    let status = status_of(rt, options);
-    reported(rt, status, options.is_reporting)
+    run_named(rt)
 }

@@ -80,16 +80,21 @@ impl Options {
     }
 }
 
-// An empty one, where there is none.
-pub(crate) fn argument(rt: HostRuntime, i: usize) -> Argument {
-    let mut page: Argument = Page::new();
+// Nothing, where there is none.
+pub(crate) fn put_argument(rt: HostRuntime, i: usize, page: &mut Argument) {
     let n = rt.arg(i, &mut page.bytes).unwrap_or(0);
     page.set_len(n);
+}
+
+pub(crate) fn argument(rt: HostRuntime, i: usize) -> Argument {
+    let mut page: Argument = Page::new();
+    put_argument(rt, i, &mut page);
     page
 }
 
+// One that finds no room is there, too.
 fn is_missing(rt: HostRuntime, i: usize) -> bool {
-    let mut space = [0u8; 4096];
+    let mut space = [0u8; 1];
     matches!(rt.arg(i, &mut space), Err(FillError::NotPresent))
 }
 
@@ -100,8 +105,13 @@ pub(crate) fn argument_count(rt: HostRuntime) -> usize {
         .unwrap_or(usize::MAX)
 }
 
+// One that finds no room is longer than the words that are asked for.
 fn is_word(rt: HostRuntime, i: usize, word: &[u8]) -> bool {
-    argument(rt, i).as_slice() == word
+    let mut space = [0u8; 16];
+    match rt.arg(i, &mut space) {
+        Ok(n) => space.get(..n) == Some(word),
+        Err(_) => false,
+    }
 }
 
 // Where --judge stands, which is first or behind --report.
