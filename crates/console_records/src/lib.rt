@@ -63,16 +63,17 @@ impl Display for Kind {
     }
 }
 
+// A number, which has one digit mostly.
 #[derive(Clone, Copy)]
-struct Channel(u8);
+pub struct Number(pub u64);
 
-impl Display for Channel {
+impl Display for Number {
     fn fmt<W: Write>(&self, f: &mut Formatter<W>) -> fmt::Result {
-        let at = usize::from(self.0);
-        match DECIMAL.get(at..at + 1) {
-            Some(digit) => f.write_str(digit),
-            None => write!(f, "{}", self.0),
+        if 9 < self.0 {
+            return write!(f, "{}", self.0);
         }
+        let at = self.0 as usize;
+        f.write_str(DECIMAL.get(at..at + 1).unwrap_or(""))
     }
 }
 
@@ -102,7 +103,7 @@ impl Display for Transfer {
             flags: _,
         } = self.0;
         f.write_str("channel ")?;
-        Channel(channel).fmt(f)?;
+        Number(u64::from(channel)).fmt(f)?;
         Kind(kind).fmt(f)?;
         Address(address).fmt(f)?;
         // where there should be one or is one

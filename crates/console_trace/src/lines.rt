@@ -1,6 +1,6 @@
 // The line of one transfer.
 use crate::transfers::Made;
-use console_records::{Flags, Transfer};
+use console_records::{Flags, Number, Transfer};
 use std::fmt;
 use std::fmt::{Display, Formatter, Write};
 
@@ -13,7 +13,9 @@ impl Display for Made {
             states,
             has_s1,
         } = *self;
-        write!(f, "# service {service} ")?;
+        f.write_str("# service ")?;
+        Number(service).fmt(f)?;
+        f.write_str(" ")?;
         Transfer(record).fmt(f)?;
         let end = match (has_s1, record.flags != 0) {
             (false, false) => " states\n",
@@ -21,7 +23,8 @@ impl Display for Made {
             (false, true) => " states,",
             (true, true) => " states with S1,",
         };
-        write!(f, ", {states}")?;
+        f.write_str(", ")?;
+        Number(states).fmt(f)?;
         f.write_str(end)?;
         if record.flags == 0 {
             return Ok(());
