@@ -1,7 +1,5 @@
 // What went wrong with a file, in words on standard error.
-use crate::system::{say, without_number};
-use std::fmt;
-use std::fmt::{InlineText, Write as _};
+use crate::system::{say, say_failed, say_number};
 use std::io::Error;
 
 // Why a file's command is not carried out.
@@ -20,23 +18,6 @@ impl From<Error> for Fault {
     }
 }
 
-// The words behind the file's name.
-impl fmt::Display for Fault {
-    fn fmt<W: fmt::Write>(&self, f: &mut fmt::Formatter<W>) -> fmt::Result {
-        match self {
-            Fault::System(error) => {
-                let mut said = InlineText::<256>::new();
-                let _ = write!(said, "{error}");
-                write!(f, ": {}", without_number(said.as_str()))
-            }
-            Fault::MoreBytes => write!(f, " has more than 70000 bytes"),
-            Fault::LongName => write!(f, " of more than 4000 characters"),
-            Fault::NoFile => write!(f, " is no file here: log FILE, or log off"),
-            Fault::NotWhole => write!(f, " is not whole: it could not be written"),
-        }
-    }
-}
-
 // What went wrong was said.
 #[derive(Clone, Copy)]
 pub struct Told;
@@ -49,11 +30,24 @@ pub struct Teller {
 }
 
 impl Teller {
+    // Piece by piece: one that can't be written keeps none behind it back.
     pub(crate) fn complain(self, name: &[u8], fault: Fault) -> Told {
         let rt = self.rt;
-        let _ = eprint!(rt; "rack: line {}: ", self.number);
+        say(rt, b"rack: line ");
+        say_number(rt, self.number);
+        say(rt, b": ");
+        let words: &[u8] = match fault {
+            Fault::System(error) => {
+                say_failed(rt, name, error);
+                return Told;
+            }
+            Fault::MoreBytes => b" has more than 70000 bytes\n",
+            Fault::LongName => b"\n",
+            Fault::NoFile => b" is no file here: log FILE, or log off\n",
+            Fault::NotWhole => b" is not whole: it could not be written\n",
+        };
         say(rt, name);
-        let _ = eprintln!(rt; "{fault}");
+        say(rt, words);
         Told
     }
 }

@@ -17,7 +17,7 @@ pub use fault::{Teller, Told};
 pub use lines::prepare;
 pub use log::Log;
 pub use page::Page;
-pub use system::{open_read, read_full, report, say, say_failed};
+pub use system::{open_read, read_full, report, say, say_failed, say_number};
 pub use write::put_file;
 
 // A line of 200,000 characters, with a carriage return and one too many.

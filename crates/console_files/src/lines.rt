@@ -23,7 +23,7 @@ struct Instead<'a> {
 // The name of a file to be written is kept.
 fn keep(teller: Teller, name: &[u8], kept: &mut Name) -> Result<(), Told> {
     if LONGEST_NAME < name.len() {
-        return Err(teller.complain(b"a name", Fault::LongName));
+        return Err(teller.complain(b"a name of more than 4000 characters", Fault::LongName));
     }
     kept.truncate(0);
     kept.text(name);

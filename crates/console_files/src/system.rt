@@ -17,6 +17,10 @@ pub fn say(rt: HostRuntime, words: &[u8]) {
     let _ = Print::write_all(&rt.stderr(), words);
 }
 
+pub fn say_number(rt: HostRuntime, n: u64) {
+    let _ = eprint!(rt; "{n}");
+}
+
 // What failed, and why, in the system's words.
 pub fn say_failed(rt: HostRuntime, what: &[u8], error: Error) {
     let said: InlineText<256> = InlineText::of(error);
@@ -26,7 +30,7 @@ pub fn say_failed(rt: HostRuntime, what: &[u8], error: Error) {
     say(rt, b"\n");
 }
 
-pub(crate) fn without_number(said: &str) -> &str {
+fn without_number(said: &str) -> &str {
     said.split_once(" (os error ")
         .map_or(said, |(words, _)| words)
 }

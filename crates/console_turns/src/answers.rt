@@ -1,5 +1,5 @@
 // Answers held against those of a file.
-use console_files::{Page, say, say_failed};
+use console_files::{Page, say, say_failed, say_number};
 use std::fs::File;
 use std::io::{Print, Read};
 use std::num::wrapping_add_u64;
@@ -163,7 +163,8 @@ impl<'a> Expected<'a> {
         } else {
             say(rt, b"rack: the script ends, and ");
             say(rt, self.name);
-            let _ = eprint!(rt; " goes on in line {number}");
+            say(rt, b" goes on in line ");
+            say_number(rt, number);
         }
         say(rt, b"\n");
         is_over
